@@ -1,0 +1,19 @@
+use borrow.Author.Tests.{eq-eqb, ne-eqb}
+use Rattle.expr.specs.Word.{binary}
+use borrow.Author.Needs.{needs}
+use Rattle.expr.proofs.word.udiv.Statement.{statement}
+use Rattle.expr.proofs.word.udiv.Tie as tie
+
+div-result : tie.Need-div-result
+div-result c = search needs
+
+returns : tie.Need-returns
+unfolding binary
+returns c = simp (eq-eqb _ _ (c .if1 .taken))
+
+returns-2 : tie.Need-returns-2
+unfolding binary
+returns-2 c = simp (ne-eqb _ _ (c .if1 .left))
+
+pub udiv-spec : {M : Type 1} → statement M
+udiv-spec = tie.close (tie.spec div-result returns returns-2)

@@ -1,0 +1,152 @@
+// The value of an expression that was checked.
+use super::File;
+use super::number;
+use super::token;
+use super::word;
+ghost use mathlib.Core.Path.{_≡_};
+ghost use mathlib.Core.Bool.{true};
+ghost use Prim.Native.Nat.{_+_, _-_, _≤_, _<_};
+ghost use lib.ListN.{length, drop, set};
+ghost use Rattle.expr.specs.Token.{readToken, operator};
+ghost use Rattle.expr.specs.Expr.{below, parse};
+ghost use Rattle.expr.specs.Eval.{envOf};
+ghost use Rattle.expr.specs.Shown.{popsOf, turned, goes, isWhole, stackOf, unaryOf, binaryOf, nowhere, Stepped, sizeOf, valueOf};
+
+// After a token: the words held, and the bytes that it took.
+pub struct Step {
+    pub depth: usize,
+    pub size: usize,
+}
+
+fn unary(code: u8, a: u32) -> u32
+    requires { ⌜ (0x10 ≤ code) × (code < 0x13) ⌝ }
+    ensures { λ r. ⌜ r ≡ unaryOf (operator code) a ⌝ }
+{
+    match code {
+        0x10 => word::not(a),
+        0x11 => word::neg(a),
+        _ => word::zero(a),
+    }
+}
+
+fn binary(code: u8, a: u32, b: u32) -> u32
+    requires { ⌜ (0x20 ≤ code) × (code < 0x2E) ⌝ }
+    ensures { λ r. ⌜ r ≡ binaryOf (operator code) a b ⌝ }
+{
+    match code {
+        0x20 => word::add(a, b),
+        0x21 => word::sub(a, b),
+        0x22 => word::mul(a, b),
+        0x23 => word::udiv(a, b),
+        0x24 => word::urem(a, b),
+        0x25 => word::and(a, b),
+        0x26 => word::or(a, b),
+        0x27 => word::xor(a, b),
+        0x28 => word::shl(a, b),
+        0x29 => word::lshr(a, b),
+        0x2A => word::equal(a, b),
+        0x2B => word::ult(a, b),
+        0x2C => word::slt(a, b),
+        _ => word::ule(a, b),
+    }
+}
+
+// Puts a word on the first `depth` words.
+fn push(words: &mut [u32; 17], depth: usize, w: u32) -> usize
+    requires { ⌜ depth < 17 ⌝ }
+    ensures { λ r. ⌜ (r ≡ depth + 1) × (now (words .exit) ≡ set (now (words .entry)) depth w) ⌝ }
+{
+    words[depth] = w;
+    depth + 1
+}
+
+fn apply_unary(code: u8, words: &mut [u32; 17], depth: usize) -> usize
+    requires { ⌜ (0x10 ≤ code) × (code < 0x13) × (1 ≤ depth) × (depth ≤ 17) × (length (now words) ≡ 17) ⌝ }
+    ensures { λ r. ⌜ Stepped nowhere (operator code) (now (words .entry)) depth (now (words .exit)) r ⌝ }
+{
+    let a = words[depth - 1];
+    push(words, depth - 1, unary(code, a))
+}
+
+fn apply_binary(code: u8, words: &mut [u32; 17], depth: usize) -> usize
+    requires { ⌜ (0x20 ≤ code) × (code < 0x2E) × (2 ≤ depth) × (depth ≤ 17) × (length (now words) ≡ 17) ⌝ }
+    ensures { λ r. ⌜ Stepped nowhere (operator code) (now (words .entry)) depth (now (words .exit)) r ⌝ }
+{
+    let a = words[depth - 2];
+    let b = words[depth - 1];
+    push(words, depth - 2, binary(code, a, b))
+}
+
+fn apply_ite(words: &mut [u32; 17], depth: usize) -> usize
+    requires { ⌜ (3 ≤ depth) × (depth ≤ 17) × (length (now words) ≡ 17) ⌝ }
+    ensures { λ r. ⌜ Stepped nowhere (operator 0x30) (now (words .entry)) depth (now (words .exit)) r ⌝ }
+{
+    let c = words[depth - 3];
+    let a = words[depth - 2];
+    let b = words[depth - 1];
+    push(words, depth - 3, word::ite(c, a, b))
+}
+
+// One operator, on the first `depth` words; the words that are held then.
+fn apply(code: u8, words: &mut [u32; 17], depth: usize) -> usize
+    requires { ⌜ (1 ≤ popsOf code) × (popsOf code ≤ depth) × (depth ≤ 17) × (length (now words) ≡ 17) ⌝ }
+    ensures { λ r. ⌜ Stepped nowhere (operator code) (now (words .entry)) depth (now (words .exit)) r ⌝ }
+{
+    if code < 0x20 {
+        return apply_unary(code, words, depth);
+    }
+    if code < 0x30 {
+        return apply_binary(code, words, depth);
+    }
+    apply_ite(words, depth)
+}
+
+// The token at a place, on the first `depth` words.
+fn step_at(
+    e: &[u8],
+    at: usize,
+    file: File,
+    vals: &[u32],
+    words: &mut [u32; 17],
+    depth: usize,
+) -> Step
+    requires { ⌜ (at < length (now e)) × (depth ≤ 17) × (length (now words) ≡ 17) × (goes (turned file (below (length (now vals))) depth (readToken file (drop at (now e)))) ≡ true) ⌝ }
+    ensures { λ r. ⌜ (r .size ≡ sizeOf file (readToken file (drop at (now (e .entry))))) × Stepped (envOf (now (vals .entry))) (readToken file (drop at (now (e .entry)))) (now (words .entry)) depth (now (words .exit)) (r .depth) ⌝ }
+{
+    let code = e[at];
+    if code == 0x01 {
+        let w = number::word_at(e, at + 1);
+        return Step {
+            depth: push(words, depth, w),
+            size: 5,
+        };
+    }
+    if code == token::symbol_code(file) {
+        let symbol = token::symbol_at(e, at + 1, file);
+        let w = vals[symbol];
+        return Step {
+            depth: push(words, depth, w),
+            size: token::symbol_width(file) + 1,
+        };
+    }
+    Step {
+        depth: apply(code, words, depth),
+        size: 1,
+    }
+}
+
+// The word that an expression leaves, with the values of its symbols.
+pub fn eval_expr(e: &[u8], file: File, vals: &[u32]) -> u32
+    requires { ⌜ isWhole (parse file (below (length (now vals))) (now e)) ≡ true ⌝ }
+    ensures { λ r. ⌜ r ≡ valueOf (envOf (now (vals .entry))) (parse file (below (length (now (vals .entry)))) (now (e .entry))) ⌝ }
+{
+    let mut words: [u32; 17] = [0; 17];
+    let mut depth: usize = 0;
+    let mut at: usize = 0;
+    while at < e.len() {
+        let s = step_at(e, at, file, vals, &mut words, depth);
+        depth = s.depth;
+        at += s.size;
+    }
+    words[0]
+}
