@@ -15,6 +15,10 @@ Env = ℕ → ℕ
 abbrev pub envOf : List ℕ → Env
 envOf vals x = getD vals x 0
 
+-- the same but for one symbol
+abbrev pub update : Env → (s v : ℕ) → Env
+update ρ s v x = cond (eqb x s) v (ρ x)
+
 -- a binary operator's left operand is pushed first, and so are c, a, b of an ite
 abbrev pub pushUnary : Unary → List ℕ → List ℕ
 pushUnary o [] = []

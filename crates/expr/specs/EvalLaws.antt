@@ -1,11 +1,13 @@
 -- The laws of evaluation: over `++`, of a renamed expression, on the symbols read, what an expression pushes, and that words stay words.
 use Prim.Native.Nat.{ℕ, zero, suc, _+_, _-_, _≤_, _<_}
 use native.Mathlib.Omega.{arith}
-use mathlib.Core.Path.{_≡_, refl, ap, _∙_}
+use mathlib.Core.Path.{_≡_, refl, ap, _∙_, fun-ext}
 use mathlib.Core.Bool.{Bool, true, false, cond}
 use mathlib.Core.List.{List, [], _∷_, _++_}
-use lib.ListN.{length}
-use borrow.Author.Tests.{eqb-true, eq-eqb}
+use lib.ListN.{length, set}
+use lib.Seq.{getD-set-same, getD-set-other}
+use lib.Dec.{eqb}
+use borrow.Author.Tests.{eqb-true, eqb-false, eq-eqb}
 use Rattle.expr.specs.declared.File.{File}
 use Rattle.expr.specs.Lists.{All, or-left, or-right, or-cases}
 use Rattle.expr.specs.Word.{Word}
@@ -14,11 +16,20 @@ use Rattle.expr.specs.Token.{Token, Const, Symbol, Un, Bin, Ite}
 use Rattle.expr.specs.TokenLaws.{Holds}
 use Rattle.expr.specs.Expr.{pops, after, readsOnly, fits}
 use Rattle.expr.specs.ExprLaws.{fits-is, Ok}
-use Rattle.expr.specs.Eval.{Env, step, eval, top, value, renameToken, rename, readsToken, reads}
+use Rattle.expr.specs.Eval.{Env, envOf, update, step, eval, top, value, renameToken, rename, readsToken, reads}
 
 pub eval-append : (ρ : Env) (e f : List Token) (st : List ℕ) → eval ρ (e ++ f) st ≡ eval ρ f (eval ρ e st)
 eval-append ρ [] f st = refl
 eval-append ρ (t ∷ e) f st = eval-append ρ e f (step ρ t st)
+
+-- ---- values in a list
+
+pub update-set : (vals : List ℕ) (s v : ℕ) → s < length vals → envOf (set vals s v) ≡ update (envOf vals) s v
+update-set vals s v h = fun-ext (λ x. go x (eqb x s) refl)
+  where
+    go : (x : ℕ) (b : Bool) → eqb x s ≡ b → envOf (set vals s v) x ≡ cond b v (envOf vals x)
+    go x true e = ap (envOf (set vals s v)) (eqb-true x s e) ∙ getD-set-same vals s v 0 h
+    go x false e = getD-set-other vals s x v 0 (λ q. eqb-false x s e q)
 
 -- ---- other symbols
 

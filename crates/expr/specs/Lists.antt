@@ -5,7 +5,7 @@ use mathlib.Core.Path.{_≡_, refl, ap, _∙_}
 use mathlib.Core.Bool.{Bool, true, false, _&&_, _||_}
 use mathlib.Core.List.{List, [], _∷_, _++_}
 use lib.Dec.{eqb}
-use lib.ListN.{length, drop, getD}
+use lib.ListN.{length, take, drop, getD}
 use borrow.Author.Tests.{eqb-true, eqb-false}
 
 -- ---- every element
@@ -18,6 +18,11 @@ pub all-drop {ℓ} : {A : Type ℓ} (P : A → Type 0) (k : ℕ) (xs : List A) �
 all-drop P zero xs h = h
 all-drop P (suc k) [] h = h
 all-drop P (suc k) (x ∷ xs) h = all-drop P k xs (h .1)
+
+pub all-take {ℓ} : {A : Type ℓ} (P : A → Type 0) (k : ℕ) (xs : List A) → All P xs → All P (take k xs)
+all-take P zero xs h = tt
+all-take P (suc k) [] h = tt
+all-take P (suc k) (x ∷ xs) h = (h .0, all-take P k xs (h .1))
 
 -- what holds at every index holds of every element
 pub all-at : (P : ℕ → Type 0) (xs : List ℕ) → ((i : ℕ) → i < length xs → P (getD xs i 0)) → All P xs

@@ -1,0 +1,110 @@
+-- Document 01, "Table and trace bytes" and "Numbered replies": headers, records and their refusals, for tables and traces alike.
+use Prim.Native.Nat.{ℕ, zero, suc, _+_, _-_}
+use mathlib.Core.Bool.{Bool, true, false, cond, _&&_}
+use mathlib.Core.List.{List, [], _∷_, _++_}
+use lib.ListN.{length, take, drop, getD}
+use lib.Dec.{eqb, leb}
+use Rattle.expr.specs.Number.{numberOf, bytesOf}
+use Rattle.expr.specs.Token.{Token}
+use Rattle.expr.specs.Expr.{Parsed, Whole, Breaks}
+
+-- ---- the header, 6 bytes
+
+abbrev pub headerInputs : List ℕ → ℕ
+headerInputs bs = getD bs 3 0
+
+abbrev pub headerCount : List ℕ → ℕ
+headerCount bs = numberOf 2 (drop 4 bs)
+
+-- the first of the replies 1 to 4 that a file of this version with at most `limit` records gets, or 0
+unfoldable pub headerReply : (version limit : ℕ) → List ℕ → ℕ
+headerReply version limit bs =
+    cond (leb 6 (length bs))
+    (cond (eqb (getD bs 0 0) version)
+    (cond (eqb (numberOf 2 (drop 1 bs)) (length bs))
+    (cond (leb (headerInputs bs) 64 && leb (headerCount bs) limit) 0 4)
+    3)
+    2)
+    1
+
+-- ---- one record
+
+-- what a record's bytes after its length come to: a thing, or the reply 5, 6 or 7
+pub data Body (A : Type 0) : Type 0 where
+  Good : A → Body A
+  Bad : (reply : ℕ) → Body A
+
+module _ {A : Type 0} where
+  -- a field of k bytes, or 5 where it is missing
+  abbrev pub field : (k : ℕ) → List ℕ → (ℕ → List ℕ → Body A) → Body A
+  field k bs then = cond (leb k (length bs)) (then (numberOf k bs) (drop k bs)) (Bad 5)
+
+  -- a target or an assigned symbol against its rule is 6
+  abbrev pub rule : Bool → Body A → Body A
+  rule b then = cond b then (Bad 6)
+
+  -- an expression against its rules is 7
+  abbrev pub holding : (List Token → A) → Parsed → Body A
+  holding f (Whole e) = Good (f e)
+  holding f (Breaks bs) = Bad 7
+
+-- the length of a record's bytes after its length field; 0, which is refused too, where that is missing or passes the end
+unfoldable pub frame : List ℕ → ℕ
+frame bs = cond (leb 2 (length bs)) (cond (leb (2 + numberOf 2 bs) (length bs)) (numberOf 2 bs) 0) 0
+
+-- ---- record after record
+
+-- all records; or a reply with the bytes from the refused record, or the first spare byte, on
+pub data Records (A : Type 0) : Type 0 where
+  Read : List A → Records A
+  Stop : (reply : ℕ) → List ℕ → Records A
+
+-- S and the records, or a reply with its offset
+pub data Input (A : Type 0) : Type 0 where
+  Accepted : (S : ℕ) → List A → Input A
+  Refused : (reply offset : ℕ) → Input A
+
+module _ {A : Type 0} where
+  unfoldable pub recordOf : (one : List ℕ → Body A) → List ℕ → Body A
+  recordOf one bs = cond (eqb (frame bs) 0) (Bad 5) (one (take (frame bs) (drop 2 bs)))
+
+  abbrev pub before : A → Records A → Records A
+  before a (Read xs) = Read (a ∷ xs)
+  before a (Stop r bs) = Stop r bs
+
+  abbrev pub onRecord : (here : List ℕ) → Body A → (A → Records A) → Records A
+  onRecord here (Good a) rest = before a (rest a)
+  onRecord here (Bad r) rest = Stop r here
+
+  -- c records and nothing after them; `one` reads a record in the state that the records before it leave
+  unfoldable pub records : {St : Type 0} → (one : St → List ℕ → Body A) → (next : St → A → St) → (c : ℕ) → St → List ℕ → Records A
+  records one next zero σ [] = Read []
+  records one next zero σ (b ∷ bs) = Stop 5 (b ∷ bs)
+  records one next (suc c) σ bs = onRecord bs (recordOf (one σ) bs) (λ a. records one next c (next σ a) (drop (2 + frame bs) bs))
+
+  abbrev pub finish : (total S : ℕ) → Records A → Input A
+  finish total S (Read xs) = Accepted S xs
+  finish total S (Stop r bs) = Refused r (total - length bs)
+
+  -- a file, whose records `body S n` reads off the bytes after the header
+  unfoldable pub readFile : (version limit : ℕ) → (body : (S n : ℕ) → List ℕ → Records A) → List ℕ → Input A
+  readFile version limit body bs =
+      cond (eqb (headerReply version limit bs) 0)
+      (finish (length bs) (headerInputs bs) (body (headerInputs bs) (headerCount bs) (drop 6 bs)))
+      (Refused (headerReply version limit bs) 0)
+
+-- ---- writing
+
+abbrev pub header : (version total S n : ℕ) → List ℕ
+header version total S n = version ∷ bytesOf 2 total ++ S ∷ bytesOf 2 n
+
+module _ {A : Type 0} (bytes : A → List ℕ) where
+  abbrev pub recordBytes : A → List ℕ
+  recordBytes a = bytesOf 2 (length (bytes a)) ++ bytes a
+
+  abbrev pub recordsBytes : List A → List ℕ
+  recordsBytes [] = []
+  recordsBytes (a ∷ xs) = recordBytes a ++ recordsBytes xs
+
+  unfoldable pub encode : (version S : ℕ) → List A → List ℕ
+  encode version S xs = header version (6 + length (recordsBytes xs)) S (length xs) ++ recordsBytes xs

@@ -1,0 +1,290 @@
+-- The laws of headers, frames and records: what an accepted file is, record after record from any offset.
+use Prim.Native.Nat.{ℕ, zero, suc, _+_, _-_, _*_, _^_, _≤_, _<_}
+use native.Mathlib.Omega.{arith}
+use mathlib.Core.Path.{_≡_, refl, sym, ap, ap₂, _∙_, subst}
+use mathlib.Core.Bool.{Bool, true, false, cond, _&&_}
+use mathlib.Core.List.{List, [], _∷_, _++_}
+use lib.ListN.{length, take, drop, getD, set, drop-of-length-le, List·getD-append}
+use lib.Seq.{drop-drop, drop-cons, append-snoc, sets, sets-eq}
+use lib.Dec.{leb, ltb, eqb}
+use borrow.Author.Tests.{eqb-true, eqb-false, eq-eqb, ne-eqb, leb-true, leb-false, le-leb, lt-leb}
+use Rattle.expr.specs.Lists.{and-both}
+use Rattle.expr.specs.Number.{numberOf}
+use Rattle.expr.specs.Token.{Token}
+use Rattle.expr.specs.Expr.{Parsed, Whole, Breaks}
+use Rattle.file.specs.Shown.{replyOf, exprReply, oneMore, readCount, offsetsFrom}
+use Rattle.file.specs.File.{headerInputs, headerCount, headerReply, Body, Good, Bad, field, rule, holding, frame, Records, Read, Stop, Input, Accepted, Refused, recordOf, before, onRecord, records, finish, readFile}
+
+-- ---- frames
+
+module _ (bs : List ℕ) where
+  pub frame-missing : length bs < 2 → frame bs ≡ 0
+  unfolding frame
+  frame-missing h = rw (lt-leb 2 (length bs) h)
+
+  pub frame-long : 2 ≤ length bs → length bs < 2 + numberOf 2 bs → frame bs ≡ 0
+  unfolding frame
+  frame-long h k = rw (le-leb 2 (length bs) h, lt-leb (2 + numberOf 2 bs) (length bs) k)
+
+  pub frame-there : 2 + numberOf 2 bs ≤ length bs → frame bs ≡ numberOf 2 bs
+  unfolding frame
+  frame-there h = rw (le-leb 2 (length bs) (omega arith), le-leb (2 + numberOf 2 bs) (length bs) h)
+
+  -- a record that is there
+  pub record Framed : Type 0 where
+    pub inside : 2 + frame bs ≤ length bs
+    pub is : numberOf 2 bs ≡ frame bs
+
+  pub framed : (frame bs ≡ 0 → ⊥) → Framed
+  framed h = go (leb 2 (length bs)) refl (leb (2 + numberOf 2 bs) (length bs)) refl
+    where
+      go : (x : Bool) → leb 2 (length bs) ≡ x → (y : Bool) → leb (2 + numberOf 2 bs) (length bs) ≡ y → Framed
+      go false e y f = absurd (h (frame-missing (leb-false 2 (length bs) e)))
+      go true e false f = absurd (h (frame-long (leb-true 2 (length bs) e) (leb-false (2 + numberOf 2 bs) (length bs) f)))
+      go true e true f =
+          let l = leb-true (2 + numberOf 2 bs) (length bs) f in
+          let p = frame-there l in
+          record { inside = omega arith; is = sym p }
+
+-- ---- one record, and those after it
+
+module _ {A : Type 0} (one : List ℕ → Body A) (bs : List ℕ) where
+  pub record-framed : (frame bs ≡ 0 → ⊥) → recordOf one bs ≡ one (take (frame bs) (drop 2 bs))
+  unfolding recordOf
+  record-framed h = ap (λ b. cond b (Bad 5) (one (take (frame bs) (drop 2 bs)))) (ne-eqb (frame bs) 0 h)
+
+  pub record-unframed : frame bs ≡ 0 → recordOf one bs ≡ Bad 5
+  unfolding recordOf
+  record-unframed h = ap (λ b. cond b (Bad 5) (one (take (frame bs) (drop 2 bs)))) (eq-eqb (frame bs) 0 h)
+
+  -- a record that is read is there
+  pub record-good : (a : A) → recordOf one bs ≡ Good a → (frame bs ≡ 0 → ⊥) × (one (take (frame bs) (drop 2 bs)) ≡ Good a)
+  record-good a h = go (eqb (frame bs) 0) refl
+    where
+      go : (x : Bool) → eqb (frame bs) 0 ≡ x → (frame bs ≡ 0 → ⊥) × (one (take (frame bs) (drop 2 bs)) ≡ Good a)
+      go true e = absurd (let z = sym h ∙ record-unframed (eqb-true (frame bs) 0 e) in let y : _≡_ {A = ℕ} 0 1 = cc in omega arith)
+      go false e = (eqb-false (frame bs) 0 e, sym (record-framed (eqb-false (frame bs) 0 e)) ∙ h)
+
+-- ---- record after record, at an offset
+
+module _ {A St : Type 0} (one : St → List ℕ → Body A) (next : St → A → St) (s : List ℕ) (at c : ℕ) (σ : St) where
+  abbrev past : ℕ
+  past = at + (2 + frame (drop at s))
+
+  pub records-good : (a : A) → recordOf (one σ) (drop at s) ≡ Good a
+      → records one next (suc c) σ (drop at s) ≡ before a (records one next c (next σ a) (drop (at + (2 + frame (drop at s))) s))
+  unfolding records
+  records-good a e =
+      ap (λ x. onRecord (drop at s) x (λ a. records one next c (next σ a) (drop (2 + frame (drop at s)) (drop at s)))) e
+      ∙ ap (λ r. before a (records one next c (next σ a) r)) (drop-drop (2 + frame (drop at s)) at s)
+
+  pub records-bad : (r : ℕ) → recordOf (one σ) (drop at s) ≡ Bad r → records one next (suc c) σ (drop at s) ≡ Stop r (drop at s)
+  unfolding records
+  records-bad r e = ap (λ x. onRecord (drop at s) x (λ a. records one next c (next σ a) (drop (2 + frame (drop at s)) (drop at s)))) e
+
+  pub count-good : (a : A) → recordOf (one σ) (drop at s) ≡ Good a
+      → readCount one next (suc c) σ (drop at s) ≡ suc (readCount one next c (next σ a) (drop (at + (2 + frame (drop at s))) s))
+  unfolding readCount
+  count-good a e =
+      ap (λ x. oneMore one next x (λ a. readCount one next c (next σ a) (drop (2 + frame (drop at s)) (drop at s)))) e
+      ∙ ap (λ r. suc (readCount one next c (next σ a) r)) (drop-drop (2 + frame (drop at s)) at s)
+
+  pub count-bad : (r : ℕ) → recordOf (one σ) (drop at s) ≡ Bad r → readCount one next (suc c) σ (drop at s) ≡ 0
+  unfolding readCount
+  count-bad r e = ap (λ x. oneMore one next x (λ a. readCount one next c (next σ a) (drop (2 + frame (drop at s)) (drop at s)))) e
+
+module _ {A St : Type 0} (one : St → List ℕ → Body A) (next : St → A → St) (s : List ℕ) (at : ℕ) (σ : St) where
+  pub records-end : length s ≤ at → records one next 0 σ (drop at s) ≡ Read []
+  unfolding records
+  records-end h = ap (records one next 0 σ) (drop-of-length-le s {i = at} h)
+
+  pub records-spare : at < length s → records one next 0 σ (drop at s) ≡ Stop 5 (drop at s)
+  unfolding records
+  records-spare h = ap (records one next 0 σ) (drop-cons s at 0 h) ∙ ap {B = Records A} (Stop 5) (sym (drop-cons s at 0 h))
+
+-- ---- what is read
+
+-- the records that are left begin with `head`
+pub record Next {A St : Type 0} (one : St → List ℕ → Body A) (next : St → A → St) (s : List ℕ) (at c : ℕ) (σ : St) (xs : List A) : Type 0 where
+  pub head : A
+  pub tail : List A
+  pub is : xs ≡ head ∷ tail
+  pub good : recordOf (one σ) (drop at s) ≡ Good head
+  pub on : records one next c (next σ head) (drop (at + (2 + frame (drop at s))) s) ≡ Read tail
+
+module _ {A St : Type 0} (one : St → List ℕ → Body A) (next : St → A → St) (s : List ℕ) where
+  pub next-record : (at c : ℕ) (σ : St) (xs : List A) → records one next (suc c) σ (drop at s) ≡ Read xs → Next one next s at c σ xs
+  next-record at c σ xs h = go (recordOf (one σ) (drop at s)) refl
+    where
+      go : (x : Body A) → recordOf (one σ) (drop at s) ≡ x → Next one next s at c σ xs
+      go (Bad r) e = absurd (let z = sym h ∙ records-bad one next s at c σ r e in let y : _≡_ {A = ℕ} 0 1 = cc in omega arith)
+      go (Good a) e = on (records one next c (next σ a) (drop (at + (2 + frame (drop at s))) s)) refl (sym (records-good one next s at c σ a e) ∙ h)
+        where
+          on : (p : Records A) → records one next c (next σ a) (drop (at + (2 + frame (drop at s))) s) ≡ p → before a p ≡ Read xs → Next one next s at c σ xs
+          on (Stop r bs) q h = absurd (let y : _≡_ {A = ℕ} 0 1 = cc in omega arith)
+          on (Read ys) q h = record { head = a; tail = ys; is = (let k : xs ≡ a ∷ ys = cc in k); good = e; on = q }
+
+  nothing-left : (at : ℕ) (σ : St) (xs : List A) → records one next 0 σ (drop at s) ≡ Read xs → xs ≡ []
+  unfolding records
+  nothing-left at σ xs h = go (drop at s) h
+    where
+      go : (bs : List ℕ) → records one next 0 σ bs ≡ Read xs → xs ≡ []
+      go [] h = cc
+      go (b ∷ bs) h = absurd (let y : _≡_ {A = ℕ} 0 1 = cc in omega arith)
+
+  -- every record is right for the state that the records before it leave
+  abbrev pub Chain : (Q : St → A → Type 0) → St → List A → Type 0
+  Chain Q σ [] = Unit {0}
+  Chain Q σ (a ∷ xs) = Q σ a × Chain Q (next σ a) xs
+
+  pub records-chain : (Q : St → A → Type 0) → ((σ : St) (l m : ℕ) (a : A) → one σ (take l (drop m s)) ≡ Good a → Q σ a)
+      → (c at : ℕ) (σ : St) (xs : List A) → records one next c σ (drop at s) ≡ Read xs → Chain Q σ xs × (length xs ≡ c)
+  records-chain Q sound zero at σ xs h = subst (λ ys. Chain Q σ ys × (length ys ≡ 0)) (sym (nothing-left at σ xs h)) (tt, refl)
+  records-chain Q sound (suc c) at σ xs h =
+      let k = next-record at c σ xs h in
+      let g = record-good (one σ) (drop at s) (k .head) (k .good) in
+      let l = frame (drop at s) in
+      let rest = records-chain Q sound c (at + (2 + frame (drop at s))) (next σ (k .head)) (k .tail) (k .on) in
+      subst (λ ys. Chain Q σ ys × (length ys ≡ suc c)) (sym (k .is)) ((sound σ l (at + 2) (k .head) (ap (λ r. one σ (take l r)) (sym (drop-drop 2 at s)) ∙ g .1), rest .0), ap suc (rest .1))
+
+  -- all that are read are counted
+  pub count-all : (c at : ℕ) (σ : St) (xs : List A) → records one next c σ (drop at s) ≡ Read xs → readCount one next c σ (drop at s) ≡ c
+  unfolding readCount
+  count-all zero at σ xs h = refl
+  count-all (suc c) at σ xs h =
+      let k = next-record at c σ xs h in
+      count-good one next s at c σ (k .head) (k .good) ∙ ap suc (count-all c (at + (2 + frame (drop at s))) (next σ (k .head)) (k .tail) (k .on))
+
+-- ---- files
+
+-- an accepted file
+pub record Header (version limit : ℕ) (s : List ℕ) : Type 0 where
+  pub long : 6 ≤ length s
+  pub right : getD s 0 0 ≡ version
+  pub total : numberOf 2 (drop 1 s) ≡ length s
+  pub inputs : headerInputs s ≤ 64
+  pub count : headerCount s ≤ limit
+
+pub header-is : (version limit : ℕ) (s : List ℕ) → headerReply version limit s ≡ 0 → Header version limit s
+unfolding headerReply
+header-is v limit s h = go (leb 6 (length s)) refl (eqb (getD s 0 0) v) refl (eqb (numberOf 2 (drop 1 s)) (length s)) refl (leb (headerInputs s) 64 && leb (headerCount s) limit) refl h
+  where
+    go : (a : Bool) → leb 6 (length s) ≡ a → (b : Bool) → eqb (getD s 0 0) v ≡ b → (c : Bool) → eqb (numberOf 2 (drop 1 s)) (length s) ≡ c
+        → (d : Bool) → (leb (headerInputs s) 64 && leb (headerCount s) limit) ≡ d → _≡_ {A = ℕ} (cond a (cond b (cond c (cond d 0 4) 3) 2) 1) 0 → Header v limit s
+    go false p b q c r d t h = absurd (omega arith)
+    go true p false q c r d t h = absurd (omega arith)
+    go true p true q false r d t h = absurd (omega arith)
+    go true p true q true r false t h = absurd (omega arith)
+    go true p true q true r true t h =
+        let k = and-both (leb (headerInputs s) 64) (leb (headerCount s) limit) t in
+        record {
+          long = leb-true 6 (length s) p;
+          right = eqb-true (getD s 0 0) v q;
+          total = eqb-true (numberOf 2 (drop 1 s)) (length s) r;
+          inputs = leb-true (headerInputs s) 64 (k .0);
+          count = leb-true (headerCount s) limit (k .1);
+        }
+
+module _ {A : Type 0} (version limit : ℕ) (body : (S n : ℕ) → List ℕ → Records A) (s : List ℕ) where
+  pub file-refused : (r : ℕ) → headerReply version limit s ≡ r → (r ≡ 0 → ⊥) → readFile version limit body s ≡ Refused r 0
+  unfolding readFile
+  file-refused r e h =
+      ap (λ x. cond (eqb x 0) (finish (length s) (headerInputs s) (body (headerInputs s) (headerCount s) (drop 6 s))) (Refused x 0)) e
+      ∙ ap (λ b. cond b (finish (length s) (headerInputs s) (body (headerInputs s) (headerCount s) (drop 6 s))) (Refused r 0)) (ne-eqb r 0 h)
+
+  pub file-read : headerReply version limit s ≡ 0 → readFile version limit body s ≡ finish (length s) (headerInputs s) (body (headerInputs s) (headerCount s) (drop 6 s))
+  unfolding readFile
+  file-read e = ap (λ x. cond (eqb x 0) (finish (length s) (headerInputs s) (body (headerInputs s) (headerCount s) (drop 6 s))) (Refused x 0)) e
+
+  -- what an accepted file is
+  pub record IsFile (S : ℕ) (xs : List A) : Type 0 where
+    pub header : headerReply version limit s ≡ 0
+    pub inputs : headerInputs s ≡ S
+    pub read : body S (headerCount s) (drop 6 s) ≡ Read xs
+
+  pub file-is : (S : ℕ) (xs : List A) → readFile version limit body s ≡ Accepted S xs → IsFile S xs
+  file-is S xs h = go (eqb (headerReply version limit s) 0) refl
+    where
+      done : (p : Records A) → body (headerInputs s) (headerCount s) (drop 6 s) ≡ p → finish (length s) (headerInputs s) p ≡ Accepted S xs → headerReply version limit s ≡ 0 → IsFile S xs
+      done (Stop r bs) q e z = absurd (let y : _≡_ {A = ℕ} 0 1 = cc in omega arith)
+      done (Read ys) q e z =
+          let i : headerInputs s ≡ S = cc in
+          let x : ys ≡ xs = cc in
+          record { header = z; inputs = i; read = subst (λ T. body T (headerCount s) (drop 6 s) ≡ Read xs) i (q ∙ ap {B = Records A} Read x) }
+
+      go : (x : Bool) → eqb (headerReply version limit s) 0 ≡ x → IsFile S xs
+      go true e = let z = eqb-true (headerReply version limit s) 0 e in done (body (headerInputs s) (headerCount s) (drop 6 s)) refl (sym (file-read z) ∙ h) z
+      go false e = absurd (let z = sym h ∙ file-refused (headerReply version limit s) refl (eqb-false (headerReply version limit s) 0 e) in let y : _≡_ {A = ℕ} 0 1 = cc in omega arith)
+
+-- ---- where records stand
+
+pub offsets-length : (c at : ℕ) (bs : List ℕ) → length (offsetsFrom c at bs) ≡ c
+unfolding offsetsFrom
+offsets-length zero at bs = refl
+offsets-length (suc c) at bs = ap suc (offsets-length c (at + (2 + frame bs)) (drop (2 + frame bs) bs))
+
+-- the records after the first k stand from `at` on
+abbrev pub Reached : (s : List ℕ) (k at : ℕ) → Type 0
+Reached s k at = (j : ℕ) → offsetsFrom (k + j) 6 (drop 6 s) ≡ offsetsFrom k 6 (drop 6 s) ++ offsetsFrom j at (drop at s)
+
+pub reached-start : (s : List ℕ) → Reached s 0 6
+unfolding offsetsFrom
+reached-start s j = ap (λ n. offsetsFrom n 6 (drop 6 s)) (let e : 0 + j ≡ j = omega arith in e)
+
+module _ (s : List ℕ) (k at : ℕ) (r : Reached s k at) where
+  pub reached-next : offsetsFrom (k + 1) 6 (drop 6 s) ≡ offsetsFrom k 6 (drop 6 s) ++ at ∷ []
+  unfolding offsetsFrom
+  reached-next = r 1
+
+  pub reached-on : Reached s (k + 1) (at + (2 + frame (drop at s)))
+  unfolding offsetsFrom
+  reached-on j =
+      let bs = drop 6 s in
+      let f = at + (2 + frame (drop at s)) in
+      ap (λ n. offsetsFrom n 6 bs) (let e : k + 1 + j ≡ k + suc j = omega arith in e)
+      ∙ r (suc j)
+      ∙ ap (λ q. offsetsFrom k 6 bs ++ at ∷ offsetsFrom j f q) (drop-drop (2 + frame (drop at s)) at s)
+      ∙ sym (append-snoc (offsetsFrom k 6 bs) at (offsetsFrom j f (drop f s)))
+      ∙ ap (λ q. q ++ offsetsFrom j f (drop f s)) (sym reached-next)
+
+pub sets-snoc : (xs : List ℕ) (i : ℕ) (vs : List ℕ) (v : ℕ) → sets xs i (vs ++ v ∷ []) ≡ set (sets xs i vs) (i + length vs) v
+sets-snoc xs i [] v = ap (λ k. set xs k v) (let e : i ≡ i + 0 = omega arith in e)
+sets-snoc xs i (a ∷ vs) v = sets-snoc (set xs i a) (suc i) vs v ∙ ap (λ k. set (sets (set xs i a) (suc i) vs) k v) (let e : suc i + length vs ≡ i + suc (length vs) = omega arith in e)
+
+pub sets-at : (xs vs : List ℕ) (k : ℕ) → length vs ≤ length xs → k < length vs → getD (sets xs 0 vs) k 0 ≡ getD vs k 0
+sets-at xs vs k h l =
+    ap (λ r. getD r k 0) (sets-eq vs xs 0 (omega arith))
+    ∙ List·getD-append vs (drop (0 + length vs) xs) 0 k l
+
+-- ---- fields, rules, expressions
+
+module _ {A : Type 0} where
+  pub field-there : (k : ℕ) (bs : List ℕ) (f : ℕ → List ℕ → Body A) → k ≤ length bs → field k bs f ≡ f (numberOf k bs) (drop k bs)
+  field-there k bs f h = ap (λ b. cond b (f (numberOf k bs) (drop k bs)) (Bad 5)) (le-leb k (length bs) h)
+
+  pub field-missing : (k : ℕ) (bs : List ℕ) (f : ℕ → List ℕ → Body A) → length bs < k → field k bs f ≡ Bad 5
+  field-missing k bs f h = ap (λ b. cond b (f (numberOf k bs) (drop k bs)) (Bad 5)) (lt-leb k (length bs) h)
+
+  pub reply-holding : (f : List Token → A) (p : Parsed) → replyOf (holding f p) ≡ exprReply p
+  reply-holding f (Whole e) = refl
+  reply-holding f (Breaks bs) = refl
+
+  pub field-good : (k : ℕ) (bs : List ℕ) (f : ℕ → List ℕ → Body A) (a : A) → field k bs f ≡ Good a → (k ≤ length bs) × (f (numberOf k bs) (drop k bs) ≡ Good a)
+  field-good k bs f a h = go (leb k (length bs)) refl h
+    where
+      go : (x : Bool) → leb k (length bs) ≡ x → cond x (f (numberOf k bs) (drop k bs)) (Bad 5) ≡ Good a → (k ≤ length bs) × (f (numberOf k bs) (drop k bs) ≡ Good a)
+      go true e h = (leb-true k (length bs) e, h)
+      go false e h = absurd (let z : _≡_ {A = ℕ} 0 1 = cc in omega arith)
+
+  pub rule-good : (b : Bool) (x : Body A) (a : A) → rule b x ≡ Good a → (b ≡ true) × (x ≡ Good a)
+  rule-good true x a h = (refl, h)
+  rule-good false x a h = absurd (let z : _≡_ {A = ℕ} 0 1 = cc in omega arith)
+
+  pub record Held (f : List Token → A) (p : Parsed) (a : A) : Type 0 where
+    pub expr : List Token
+    pub parsed : p ≡ Whole expr
+    pub is : a ≡ f expr
+
+  pub holding-good : (f : List Token → A) (p : Parsed) (a : A) → holding f p ≡ Good a → Held f p a
+  holding-good f (Whole e) a h = record { expr = e; parsed = refl; is = (let k : a ≡ f e = cc in k) }
+  holding-good f (Breaks bs) a h = absurd (let z : _≡_ {A = ℕ} 0 1 = cc in omega arith)

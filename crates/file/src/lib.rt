@@ -1,0 +1,44 @@
+// What tables and traces share: the header and the framing of records (document 01, "Table and trace bytes").
+use expr::number;
+ghost use mathlib.Core.Path.{_≡_};
+ghost use Prim.Native.Nat.{_≤_};
+ghost use lib.ListN.{length, drop};
+ghost use Rattle.file.specs.File.{headerReply, frame};
+
+// The first of the replies 1 to 4 that a header gets, or 0.
+pub fn header_reply(s: &[u8], version: u8, limit: usize) -> u8
+    ensures { λ r. ⌜ r ≡ headerReply version limit (now (s .entry)) ⌝ }
+{
+    if s.len() < 6 {
+        return 1;
+    }
+    if s[0] != version {
+        return 2;
+    }
+    if number::two_at(s, 1) != s.len() {
+        return 3;
+    }
+    if 64 < s[3] {
+        return 4;
+    }
+    if limit < number::two_at(s, 4) {
+        return 4;
+    }
+    0
+}
+
+// The length of the record at a place, after its length field; 0 where that is missing, 0 or passes the end.
+pub fn frame_at(s: &[u8], at: usize) -> usize
+    requires { ⌜ at ≤ length (now s) ⌝ }
+    ensures { λ r. ⌜ r ≡ frame (drop at (now (s .entry))) ⌝ }
+{
+    let left = s.len() - at;
+    if left < 2 {
+        return 0;
+    }
+    let len = number::two_at(s, at);
+    if left < 2 + len {
+        return 0;
+    }
+    len
+}

@@ -1,0 +1,7 @@
+pub mod Bodies
+pub mod Walk
+pub mod Copies
+pub mod Held
+pub mod Moves
+pub mod Running
+pub mod Answers

@@ -1,0 +1,42 @@
+// Tables: any bytes are read, and an accepted table is run under a bound on its back jumps.
+pub mod read;
+pub mod steps;
+
+use expr::number;
+ghost use mathlib.Core.Path.{_≡_};
+ghost use Rattle.table.specs.Answer.{runAnswer};
+
+// Document 01's answer to running: a reply and its offset, 0 safe or 1 unsafe with its place, the back jumps taken.
+pub struct Answer {
+    pub reply: u32,
+    pub offset: u32,
+    pub verdict: u32,
+    pub place: u32,
+    pub back_jumps: u32,
+}
+
+// Runs a table under a bound, from a valuation of its inputs.
+pub fn run(table: &[u8], bound: u64, words: &[u32]) -> Answer
+    ensures { λ r. ⌜ r ≡ runAnswer (now (table .entry)) bound (now (words .entry)) ⌝ }
+{
+    let head = file::header_reply(table, 1, 1024);
+    if head != 0 {
+        return steps::refused(head as u32, 0);
+    }
+    let inputs = number::byte_at(table, 3);
+    let n = number::two_at(table, 4);
+    let mut offsets: [u16; 1024] = [0; 1024];
+    let t = read::read_records(table, inputs, n, &mut offsets);
+    let reply = t.reply;
+    if reply != 0 {
+        return steps::refused(reply as u32, t.offset as u32);
+    }
+    if 255 < bound {
+        return steps::refused(8, 0);
+    }
+    if words.len() != inputs {
+        return steps::refused(11, 0);
+    }
+    let mut vals = steps::values(words);
+    steps::run_from(table, &offsets, n, bound as usize, &mut vals)
+}

@@ -1,0 +1,109 @@
+// The instructions of a table.
+use expr::File;
+use expr::accept;
+use expr::accept::Checked;
+use expr::number;
+ghost use mathlib.Core.Path.{_≡_};
+ghost use Prim.Native.Nat.{_≤_, _<_};
+ghost use lib.ListN.{length, drop};
+ghost use Rattle.expr.specs.declared.File.the-variants.{Table};
+ghost use Rattle.expr.specs.Expr.{below, parse};
+ghost use Rattle.file.specs.Shown.{replyOf, exprReply};
+ghost use Rattle.table.specs.Table.{instr};
+ghost use Rattle.table.specs.Shown.{ReadRecords};
+
+// How far the records of a table were read: a reply with its offset, 0 if all are there and nothing after them; and the number of records
+// that were read before it.
+pub struct Reading {
+    pub reply: u8,
+    pub offset: usize,
+    pub count: usize,
+}
+
+// The expression from a place of a record on: 0, or 7.
+fn expr_reply(body: &[u8], from: usize, inputs: usize) -> u8
+    requires { ⌜ from ≤ length (now body) ⌝ }
+    ensures { λ r. ⌜ r ≡ exprReply (parse Table (below inputs) (drop from (now (body .entry)))) ⌝ }
+{
+    let none: [bool; 0] = [false; 0];
+    let c = accept::check_expr(&body[from..], File::Table, inputs, &none);
+    match c {
+        Checked::Fine => 0,
+        Checked::Broken(_) => 7,
+    }
+}
+
+// A record's bytes after its length: 0, or the reply 5, 6 or 7.
+fn body_reply(body: &[u8], inputs: usize, n: usize) -> u8
+    requires { ⌜ 0 < length (now body) ⌝ }
+    ensures { λ r. ⌜ r ≡ replyOf (instr inputs n (now (body .entry))) ⌝ }
+{
+    let kind = body[0];
+    if kind == 1 {
+        if body.len() < 2 {
+            return 5;
+        }
+        if inputs <= number::byte_at(body, 1) {
+            return 6;
+        }
+        return expr_reply(body, 2, inputs);
+    }
+    if kind == 4 {
+        if body.len() < 3 {
+            return 5;
+        }
+        if n < number::two_at(body, 1) {
+            return 6;
+        }
+        return expr_reply(body, 3, inputs);
+    }
+    if kind == 2 {
+        return expr_reply(body, 1, inputs);
+    }
+    if kind == 3 {
+        return expr_reply(body, 1, inputs);
+    }
+    5
+}
+
+// Reads the records after the header, and stores their offsets.
+pub fn read_records(table: &[u8], inputs: usize, n: usize, offsets: &mut [u16]) -> Reading
+    requires { ⌜ (6 ≤ length (now table)) × (length (now table) < 65536) × (n ≤ length (now offsets)) ⌝ }
+    ensures { λ r. ⌜ ReadRecords (now (table .entry)) inputs n (now (offsets .entry)) (now (offsets .exit)) r ⌝ }
+{
+    let mut at: usize = 6;
+    let mut k: usize = 0;
+    while k < n {
+        let len = file::frame_at(table, at);
+        if len == 0 {
+            return Reading {
+                reply: 5,
+                offset: at,
+                count: k,
+            };
+        }
+        let reply = body_reply(&table[at + 2..at + (2 + len)], inputs, n);
+        if reply != 0 {
+            return Reading {
+                reply: reply,
+                offset: at,
+                count: k,
+            };
+        }
+        offsets[k] = at as u16;
+        at += 2 + len;
+        k += 1;
+    }
+    if at == table.len() {
+        return Reading {
+            reply: 0,
+            offset: 0,
+            count: n,
+        };
+    }
+    Reading {
+        reply: 5,
+        offset: at,
+        count: n,
+    }
+}
