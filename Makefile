@@ -1,5 +1,5 @@
 # make run     the slice of a rule          make bench   speed against plain Rust, as ratios
-# make test    the gate                     make lib     the archive for C and Rust
+# make test    the gate                     make lib     target/staticlib/libkadvitul.a, for C and Rust
 # make fmt     lay every file out
 
 .PHONY: run test bench lib fmt
@@ -10,11 +10,12 @@ run:
 test:
 	@tools/gate
 
-bench:
-	@echo "make bench: nothing to measure yet (README.md says what is there)"
+bench: lib
+	cd host && cargo run --offline --release --quiet --bin bench
 
 lib:
-	@echo "make lib: the C interface is not built yet (README.md says what is there)"
+	rt staticlib kadvitul
 
 fmt:
 	rt fmt
+	cd host && cargo fmt

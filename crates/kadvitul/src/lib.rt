@@ -1,49 +1,77 @@
-// The C interface: one number of an answer for each call.
+// The C interface: one number of an answer for each call. `include/kadvitul.h` declares it.
 use expr::number;
 use table::Answer;
+ghost use mathlib.Core.Path.{_≡_};
+ghost use Prim.Native.Nat.{_/_, _*_, _≤_};
+ghost use lib.ListN.{length};
+ghost use lib.Seq.{sets};
+ghost use Rattle.kadvitul.specs.Interface.{wordsOf, runBytes};
 
-// The words of a valuation of 4 bytes each. A valuation of any other length, or of more than 64 words, becomes 65 words, which no table has.
-fn run_bytes(rule: &[u8], bound: u64, valuation: &[u8]) -> Answer {
-    let mut words: [u32; 65] = [0; 65];
-    let len = valuation.len();
-    if len % 4 != 0 || 256 < len {
-        return table::run(rule, bound, &words);
-    }
-    let count = len / 4;
+// Stores `count` words of a valuation.
+fn decode(valuation: &[u8], count: usize, words: &mut [u32])
+    requires { ⌜ (4 * count ≤ length (now valuation)) × (count ≤ length (now words)) ⌝ }
+    ensures { λ _. ⌜ now (words .exit) ≡ sets (now (words .entry)) 0 (wordsOf count (now (valuation .entry))) ⌝ }
+{
     let mut s: usize = 0;
     while s < count {
         words[s] = number::word_at(valuation, 4 * s);
         s += 1;
     }
+}
+
+// Runs a rule's table. A valuation of no whole number of words, or of more than 64, becomes 65 words, which no table has.
+fn run_bytes(rule: &[u8], bound: u64, valuation: &[u8]) -> Answer
+    ensures { λ r. ⌜ r ≡ runBytes (now (rule .entry)) bound (now (valuation .entry)) ⌝ }
+{
+    let mut words: [u32; 65] = [0; 65];
+    let len = valuation.len();
+    let count = len / 4;
+    if len != 4 * count {
+        return table::run(rule, bound, &words);
+    }
+    if 64 < count {
+        return table::run(rule, bound, &words);
+    }
+    decode(valuation, count, &mut words);
     table::run(rule, bound, &words[..count])
 }
 
 #[no_mangle]
-pub extern "C" fn kadvitul_run_reply(rule: &[u8], bound: u64, valuation: &[u8]) -> u32 {
+pub extern "C" fn kadvitul_run_reply(rule: &[u8], bound: u64, valuation: &[u8]) -> u32
+    ensures { λ r. ⌜ r ≡ (runBytes (now (rule .entry)) bound (now (valuation .entry))) .reply ⌝ }
+{
     let a = run_bytes(rule, bound, valuation);
     a.reply
 }
 
 #[no_mangle]
-pub extern "C" fn kadvitul_run_offset(rule: &[u8], bound: u64, valuation: &[u8]) -> u32 {
+pub extern "C" fn kadvitul_run_offset(rule: &[u8], bound: u64, valuation: &[u8]) -> u32
+    ensures { λ r. ⌜ r ≡ (runBytes (now (rule .entry)) bound (now (valuation .entry))) .offset ⌝ }
+{
     let a = run_bytes(rule, bound, valuation);
     a.offset
 }
 
 #[no_mangle]
-pub extern "C" fn kadvitul_run_verdict(rule: &[u8], bound: u64, valuation: &[u8]) -> u32 {
+pub extern "C" fn kadvitul_run_verdict(rule: &[u8], bound: u64, valuation: &[u8]) -> u32
+    ensures { λ r. ⌜ r ≡ (runBytes (now (rule .entry)) bound (now (valuation .entry))) .verdict ⌝ }
+{
     let a = run_bytes(rule, bound, valuation);
     a.verdict
 }
 
 #[no_mangle]
-pub extern "C" fn kadvitul_run_place(rule: &[u8], bound: u64, valuation: &[u8]) -> u32 {
+pub extern "C" fn kadvitul_run_place(rule: &[u8], bound: u64, valuation: &[u8]) -> u32
+    ensures { λ r. ⌜ r ≡ (runBytes (now (rule .entry)) bound (now (valuation .entry))) .place ⌝ }
+{
     let a = run_bytes(rule, bound, valuation);
     a.place
 }
 
 #[no_mangle]
-pub extern "C" fn kadvitul_run_back_jumps(rule: &[u8], bound: u64, valuation: &[u8]) -> u32 {
+pub extern "C" fn kadvitul_run_back_jumps(rule: &[u8], bound: u64, valuation: &[u8]) -> u32
+    ensures { λ r. ⌜ r ≡ (runBytes (now (rule .entry)) bound (now (valuation .entry))) .«back_jumps» ⌝ }
+{
     let a = run_bytes(rule, bound, valuation);
     a.back_jumps
 }

@@ -1,0 +1,13 @@
+use mathlib.Core.Path.{ap}
+use borrow.Author.Needs.{needs}
+use Rattle.kadvitul.proofs.kadvitul_run_place.Statement.{statement}
+use Rattle.kadvitul.proofs.kadvitul_run_place.Tie as tie
+
+run-bytes-requires : tie.Need-run-bytes-requires
+run-bytes-requires c κs = search needs
+
+returns : tie.Need-returns
+returns c = ap (λ a. a .place) (c .run-bytes .ensures)
+
+pub kadvitul-run-place-spec : {M : Type 1} → statement M
+kadvitul-run-place-spec = tie.close (tie.spec run-bytes-requires returns)

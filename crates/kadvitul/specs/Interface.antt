@@ -1,0 +1,25 @@
+-- Document 01, "What is built": the C job hands a valuation as 4×S big-endian bytes; any other length is refusal 11.
+use Prim.Native.Nat.{ℕ, zero, suc, _*_}
+use mathlib.Core.Bool.{cond}
+use mathlib.Core.List.{List, [], _∷_}
+use lib.ListN.{length, drop}
+use lib.Dec.{eqb, leb}
+use Rattle.expr.specs.Number.{numberOf}
+use Rattle.file.specs.File.{Input, Accepted, Refused}
+use Rattle.table.specs.declared.Answer.{Answer}
+use Rattle.table.specs.Table.{Instr, readTable}
+use Rattle.table.specs.Run.{run}
+use Rattle.table.specs.Answer.{refusal, answerOf}
+
+-- the first c words of a valuation
+abbrev pub wordsOf : (c : ℕ) → List ℕ → List ℕ
+wordsOf zero bs = []
+wordsOf (suc c) bs = numberOf 4 bs ∷ wordsOf c (drop 4 bs)
+
+abbrev pub answeredBytes : (K : ℕ) (valuation : List ℕ) → Input Instr → Answer
+answeredBytes K valuation (Refused reply offset) = refusal reply offset
+answeredBytes K valuation (Accepted S is) =
+    cond (leb K 255) (cond (eqb (length valuation) (4 * S)) (answerOf (run is K (wordsOf S valuation))) (refusal 11 0)) (refusal 8 0)
+
+unfoldable pub runBytes : (table : List ℕ) (K : ℕ) (valuation : List ℕ) → Answer
+runBytes table K valuation = answeredBytes K valuation (readTable table)

@@ -1,0 +1,98 @@
+-- Document 01's small rule and other worked cases of running, on their real bytes: computed.
+use Prim.Native.Nat.{ℕ, zero, suc}
+use mathlib.Core.Path.{_≡_, refl}
+use mathlib.Core.List.{List, [], _∷_}
+use lib.ListN.{length}
+use Rattle.expr.specs.Word.{unary, binary}
+use Rattle.expr.specs.Token.{operator, readToken}
+use Rattle.expr.specs.Expr.{fits, parseFrom}
+use Rattle.expr.specs.Eval.{value}
+use Rattle.file.specs.File.{headerReply, frame, recordOf, records, readFile, Accepted, Refused}
+use Rattle.table.specs.declared.Answer.{Answer}
+use Rattle.table.specs.Table.{instr, readTable}
+use Rattle.table.specs.Run.{run}
+use Rattle.table.specs.Answer.{refusal, runAnswer}
+
+-- (0) if x is zero go to 3; (1) x becomes x - 1; (2) if 1 go to 0; (3) assert 0
+abbrev pub smallRule : List ℕ
+smallRule =
+    0x01 ∷ 0x00 ∷ 0x2C ∷ 0x01 ∷ 0x00 ∷ 0x04
+    ∷ 0x00 ∷ 0x06 ∷ 0x04 ∷ 0x00 ∷ 0x03 ∷ 0x02 ∷ 0x00 ∷ 0x12
+    ∷ 0x00 ∷ 0x0A ∷ 0x01 ∷ 0x00 ∷ 0x02 ∷ 0x00 ∷ 0x01 ∷ 0x00 ∷ 0x00 ∷ 0x00 ∷ 0x01 ∷ 0x21
+    ∷ 0x00 ∷ 0x08 ∷ 0x04 ∷ 0x00 ∷ 0x00 ∷ 0x01 ∷ 0x00 ∷ 0x00 ∷ 0x00 ∷ 0x01
+    ∷ 0x00 ∷ 0x06 ∷ 0x03 ∷ 0x01 ∷ 0x00 ∷ 0x00 ∷ 0x00 ∷ 0x00 ∷ []
+
+abbrev pub safe : (backJumps : ℕ) → Answer
+safe r = record { reply = 0; offset = 0; verdict = 0; place = 0; «back_jumps» = r }
+
+abbrev pub unsafeAt : (place backJumps : ℕ) → Answer
+unsafeAt p r = record { reply = 0; offset = 0; verdict = 1; place = p; «back_jumps» = r }
+
+pub m1 : runAnswer smallRule 0 (0 ∷ []) ≡ unsafeAt 3 0
+unfolding runAnswer readTable readFile headerReply records recordOf frame instr parseFrom readToken operator fits run value unary binary
+m1 = refl
+
+pub m2 : runAnswer smallRule 0 (1 ∷ []) ≡ safe 0
+unfolding runAnswer readTable readFile headerReply records recordOf frame instr parseFrom readToken operator fits run value unary binary
+m2 = refl
+
+pub m3 : runAnswer smallRule 1 (1 ∷ []) ≡ unsafeAt 8 1
+unfolding runAnswer readTable readFile headerReply records recordOf frame instr parseFrom readToken operator fits run value unary binary
+m3 = refl
+
+pub m4 : runAnswer smallRule 1 (2 ∷ []) ≡ safe 1
+unfolding runAnswer readTable readFile headerReply records recordOf frame instr parseFrom readToken operator fits run value unary binary
+m4 = refl
+
+pub m11 : runAnswer (0x01 ∷ 0x00 ∷ 0x06 ∷ 0x00 ∷ 0x00 ∷ 0x00 ∷ []) 0 [] ≡ safe 0
+unfolding runAnswer readTable readFile headerReply records run
+m11 = refl
+
+-- K = 255 is accepted, 256 is 8; and 8 comes before 11
+bounds : (runAnswer smallRule 255 (255 ∷ []) ≡ unsafeAt 1278 255) × (runAnswer smallRule 256 (255 ∷ []) ≡ refusal 8 0) × (runAnswer smallRule 256 [] ≡ refusal 8 0)
+    × (runAnswer smallRule 0 [] ≡ refusal 11 0)
+unfolding runAnswer readTable readFile headerReply records recordOf frame instr parseFrom readToken operator fits run value unary binary
+bounds = (refl, refl, refl, refl)
+
+-- a table of no instructions: S = 64 passes, 65 is 4
+abbrev inputs : ℕ → List ℕ
+inputs S = 0x01 ∷ 0x00 ∷ 0x06 ∷ S ∷ 0x00 ∷ 0x00 ∷ []
+
+sixty-four : (readTable (inputs 64) ≡ Accepted 64 []) × (readTable (inputs 65) ≡ Refused 4 0)
+unfolding readTable readFile headerReply records
+sixty-four = (refl, refl)
+
+-- a record due at the very end of the file is 5 at the file's length
+at-the-end : readTable (0x01 ∷ 0x00 ∷ 0x06 ∷ 0x00 ∷ 0x00 ∷ 0x01 ∷ []) ≡ Refused 5 6
+unfolding readTable readFile headerReply records recordOf frame
+at-the-end = refl
+
+-- spare bytes are judged after all records: a 7 in the last record comes first
+spare : (readTable (0x01 ∷ 0x00 ∷ 0x0B ∷ 0x00 ∷ 0x00 ∷ 0x01 ∷ 0x00 ∷ 0x01 ∷ 0x02 ∷ 0x00 ∷ 0x00 ∷ []) ≡ Refused 7 6)
+    × (readTable (0x01 ∷ 0x00 ∷ 0x08 ∷ 0x00 ∷ 0x00 ∷ 0x00 ∷ 0x00 ∷ 0x00 ∷ []) ≡ Refused 5 6)
+unfolding readTable readFile headerReply records recordOf frame instr parseFrom
+spare = (refl, refl)
+
+-- a target against its rule is 6, even before an expression that is 7; kind 0 and kind 5 are 5
+faults : (readTable (0x01 ∷ 0x00 ∷ 0x0B ∷ 0x00 ∷ 0x00 ∷ 0x01 ∷ 0x00 ∷ 0x03 ∷ 0x04 ∷ 0x00 ∷ 0x02 ∷ []) ≡ Refused 6 6)
+    × (readTable (0x01 ∷ 0x00 ∷ 0x09 ∷ 0x00 ∷ 0x00 ∷ 0x01 ∷ 0x00 ∷ 0x01 ∷ 0x00 ∷ []) ≡ Refused 5 6)
+    × (readTable (0x01 ∷ 0x00 ∷ 0x09 ∷ 0x00 ∷ 0x00 ∷ 0x01 ∷ 0x00 ∷ 0x01 ∷ 0x05 ∷ []) ≡ Refused 5 6)
+unfolding readTable readFile headerReply records recordOf frame instr parseFrom
+faults = (refl, refl, refl)
+
+-- a self jump is a back jump: (0) if 1 go to 0
+self-jump : runAnswer (0x01 ∷ 0x00 ∷ 0x10 ∷ 0x00 ∷ 0x00 ∷ 0x01 ∷ 0x00 ∷ 0x08 ∷ 0x04 ∷ 0x00 ∷ 0x00 ∷ 0x01 ∷ 0x00 ∷ 0x00 ∷ 0x00 ∷ 0x01 ∷ []) 7 [] ≡ safe 7
+unfolding runAnswer readTable readFile headerReply records recordOf frame instr parseFrom readToken operator fits run value
+self-jump = refl
+
+-- 1,024 instructions, each an Assert of symbol 0, in 5,126 bytes
+abbrev pub asserts : ℕ → List ℕ
+asserts zero = []
+asserts (suc n) = 0x00 ∷ 0x03 ∷ 0x03 ∷ 0x02 ∷ 0x00 ∷ asserts n
+
+abbrev pub manyAsserts : List ℕ
+manyAsserts = 0x01 ∷ 0x14 ∷ 0x06 ∷ 0x01 ∷ 0x04 ∷ 0x00 ∷ asserts 1024
+
+many : (length manyAsserts ≡ 5126) × (runAnswer manyAsserts 1 (1 ∷ []) ≡ safe 0) × (runAnswer manyAsserts 1 (0 ∷ []) ≡ unsafeAt 0 0)
+unfolding runAnswer readTable readFile headerReply records recordOf frame instr parseFrom readToken operator fits run value
+many = (refl, refl, refl)

@@ -1,0 +1,26 @@
+//! Links libkadvitul.a from the folder that `make lib` builds it in, or from the folder KADVITUL_LIB.
+
+use std::env;
+use std::path::PathBuf;
+use std::process;
+
+fn main() {
+    let folder = archive_folder();
+    let archive = folder.join("libkadvitul.a");
+    println!("cargo:rerun-if-env-changed=KADVITUL_LIB");
+    println!("cargo:rerun-if-changed={}", archive.display());
+    if !archive.is_file() {
+        eprintln!("{} is missing: run `make lib` first", archive.display());
+        process::exit(1);
+    }
+    println!("cargo:rustc-link-search=native={}", folder.display());
+    println!("cargo:rustc-link-lib=static:-bundle=kadvitul");
+}
+
+fn archive_folder() -> PathBuf {
+    if let Some(folder) = env::var_os("KADVITUL_LIB") {
+        return folder.into();
+    }
+    let package = env::var_os("CARGO_MANIFEST_DIR").expect("cargo sets CARGO_MANIFEST_DIR");
+    PathBuf::from(package).join("../target/staticlib")
+}

@@ -1,0 +1,69 @@
+//! Seeded cases of running: one number gives one case, on every machine.
+
+mod expressions;
+mod faults;
+mod random;
+mod rules;
+
+use crate::case::RunCase;
+use crate::encoding;
+use random::Random;
+
+/// Runs of tables longer than this get small bounds, for the time they take.
+const LONG_TABLE: usize = 4000;
+
+pub fn run_case(seed: u64) -> RunCase {
+    let mut random = Random::new(seed);
+    let rule = rules::rule(&mut random);
+    let inputs = rule.inputs;
+    let table = if random.percent(40) { faults::damaged(&mut random, rule) } else { rule.encode() };
+    RunCase { bound: bound(&mut random, table.len()), valuation: valuation(&mut random, inputs.into()), table }
+}
+
+fn bound(random: &mut Random, table_length: usize) -> u64 {
+    let bound = any_bound(random);
+    if table_length > LONG_TABLE && bound <= 255 && !random.one_in(10) {
+        return bound % 8;
+    }
+    bound
+}
+
+fn any_bound(random: &mut Random) -> u64 {
+    match random.below(20) {
+        0..=9 => random.below(5) as u64,
+        10..=13 => random.below(21) as u64,
+        14..=16 => random.below(256) as u64,
+        17 => random.between(254, 258) as u64,
+        18 => random.between(256, 300) as u64,
+        _ => huge_bound(random),
+    }
+}
+
+/// Bounds whose low bytes alone would pass.
+fn huge_bound(random: &mut Random) -> u64 {
+    let high = random.pick(&[1 << 9, 1 << 16, 1 << 31, 1 << 32, 1 << 63, u64::MAX - 255]);
+    high + random.below(256) as u64
+}
+
+fn valuation(random: &mut Random, inputs: usize) -> Vec<u8> {
+    let words: Vec<u32> = (0..inputs).map(|_| random.word()).collect();
+    let mut valuation = encoding::valuation(&words);
+    if random.percent(12) {
+        valuation.resize(valuation_length(random, inputs), random.byte());
+    }
+    valuation
+}
+
+fn valuation_length(random: &mut Random, inputs: usize) -> usize {
+    let right = 4 * inputs;
+    match random.below(8) {
+        0 => 0,
+        1 => inputs,
+        2 => right + 1,
+        3 => right.saturating_sub(1),
+        4 => right + 4,
+        5 => right.saturating_sub(4),
+        6 => right + random.pick(&[256, 1 << 16]),
+        _ => random.below(300),
+    }
+}

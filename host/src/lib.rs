@@ -1,0 +1,9 @@
+//! Holds libkadvitul.a to a model written from document 01 alone, which shares nothing with the library.
+
+pub mod archive;
+pub mod case;
+pub mod cases;
+pub mod encoding;
+pub mod generate;
+pub mod model;
+pub mod shrink;

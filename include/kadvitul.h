@@ -1,0 +1,34 @@
+/* Kadvitul: a proved checker for merge rules.
+ *
+ * A rule is a table of bytes. Every call takes any bytes at all and gives one number of the documented answer; the calls that belong
+ * together give the numbers of one and the same answer. Nothing is kept between calls, nothing is allocated, no pointer is kept, and
+ * calls may run at the same time on several threads. A pointer may be NULL where its length is 0.
+ *
+ * Replies: 0 done; 1 fewer than 6 bytes; 2 wrong version byte; 3 length field is not the length; 4 inputs or count above the limit;
+ * 5 a record is cut short, empty, of unknown kind or lacks fields, or bytes follow the last; 6 a target or an assigned symbol against its
+ * rule; 7 an expression against its rules; 8 bound above 255; 11 valuation length is not 4 times the inputs. The offset is that of the
+ * refused record's first byte, or of the first spare byte, for 5 to 7, and 0 otherwise. A refusal's other numbers are 0.
+ */
+#ifndef KADVITUL_H
+#define KADVITUL_H
+
+#include <stddef.h>
+#include <stdint.h>
+
+#ifdef __cplusplus
+extern "C" {
+#endif
+
+/* Running a table under a bound on its back jumps. The valuation has 4 bytes, big-endian, for each input.
+ * The verdict is 0 safe, 1 unsafe; an unsafe run has a place, back_jumps * (instructions + 1) + the instruction that failed. */
+uint32_t kadvitul_run_reply(const uint8_t *table, size_t table_len, uint64_t bound, const uint8_t *valuation, size_t valuation_len);
+uint32_t kadvitul_run_offset(const uint8_t *table, size_t table_len, uint64_t bound, const uint8_t *valuation, size_t valuation_len);
+uint32_t kadvitul_run_verdict(const uint8_t *table, size_t table_len, uint64_t bound, const uint8_t *valuation, size_t valuation_len);
+uint32_t kadvitul_run_place(const uint8_t *table, size_t table_len, uint64_t bound, const uint8_t *valuation, size_t valuation_len);
+uint32_t kadvitul_run_back_jumps(const uint8_t *table, size_t table_len, uint64_t bound, const uint8_t *valuation, size_t valuation_len);
+
+#ifdef __cplusplus
+}
+#endif
+
+#endif
