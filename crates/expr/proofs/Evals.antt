@@ -1,10 +1,9 @@
 -- The evaluator's loop: the value of the rest of the expression, from the stack that is reached, is the value of the whole.
-use Prim.Native.Nat.{ℕ, suc, _+_, _-_, _≤_, _<_}
+use Prim.Native.Nat.{ℕ, _+_, _≤_, _<_}
 use native.Mathlib.Omega.{arith}
-use mathlib.Core.Path.{_≡_, refl, sym, ap, ap₂, _∙_, subst}
+use mathlib.Core.Path.{_≡_, refl, sym, ap, ap₂, _∙_}
 use mathlib.Core.Bool.{Bool, true, false, cond}
-use mathlib.Core.Option.{Option, some}
-use mathlib.Core.List.{List, [], _∷_}
+use mathlib.Core.List.{List, []}
 use lib.ListN.{length, drop, getD}
 use lib.Dec.{eqb}
 use borrow.Author.Tests.{eqb-true}
@@ -12,9 +11,9 @@ use Rattle.expr.specs.declared.File.{File}
 use Rattle.expr.specs.declared.accept.After.{After}
 use Rattle.expr.specs.declared.accept.After.the-variants.{Stop, Next}
 use Rattle.expr.specs.Token.{Token, readToken}
-use Rattle.expr.specs.Expr.{depthLimit, below, pops, Parsed, Whole, Breaks, also, parseFrom, parse}
+use Rattle.expr.specs.Expr.{below, pops, Parsed, Whole, Breaks, also, parseFrom, parse}
 use Rattle.expr.specs.ExprLaws.{depthLimit-le, fits-is, end-at}
-use Rattle.expr.specs.Eval.{Env, envOf, step, eval, top}
+use Rattle.expr.specs.Eval.{Env, envOf, step}
 use Rattle.expr.specs.Shown.{popped, turned, goes, isWhole, stackOf, sizeOf, stepped, Stepped, valueFrom, valueOf}
 use Rattle.expr.proofs.Turns.{Went, goes-on, whole-goes}
 

@@ -1,5 +1,5 @@
 -- One turn of the loops over an expression's tokens: what the token at an offset leaves, and how the check goes on from there.
-use Prim.Native.Nat.{ℕ, zero, suc, _+_, _-_, _≤_, _<_}
+use Prim.Native.Nat.{ℕ, suc, _+_, _-_, _≤_, _<_}
 use native.Mathlib.Omega.{arith}
 use native.Mathlib.Numerals.{add-one}
 use mathlib.Core.Path.{_≡_, refl, sym, ap, ap₂, _∙_}
@@ -9,15 +9,14 @@ use mathlib.Core.List.{List, [], _∷_}
 use lib.ListN.{length, drop, length-drop}
 use lib.Dec.{eqb}
 use Rattle.expr.specs.declared.File.{File}
-use Rattle.expr.specs.declared.token.Read.{Read}
 use Rattle.expr.specs.declared.token.Read.the-variants as R
 use Rattle.expr.specs.declared.accept.Checked.{Checked}
 use Rattle.expr.specs.declared.accept.Checked.the-variants.{Fine, Broken}
 use Rattle.expr.specs.declared.accept.After.{After}
 use Rattle.expr.specs.declared.accept.After.the-variants.{Stop, Next}
-use Rattle.expr.specs.Token.{Token, Const, Symbol, Un, Bin, Ite, symbolWidth, operandCount, operator, readToken}
+use Rattle.expr.specs.Token.{Token, Const, Symbol, symbolWidth, operandCount, readToken}
 use Rattle.expr.specs.TokenLaws.{operator-is, operator-count, token-there}
-use Rattle.expr.specs.Expr.{depthLimit, pops, after, readsOnly, fits, Parsed, Whole, Breaks, also, onToken, parseFrom, parse}
+use Rattle.expr.specs.Expr.{depthLimit, pops, after, fits, Parsed, Whole, Breaks, also, onToken, parseFrom}
 use Rattle.expr.specs.ExprLaws.{Fits, fits-is, is-fits, token-at, end-at}
 use Rattle.expr.specs.Shown.{shownToken, popsOf, turned, checked, goes, isWhole}
 use Rattle.expr.proofs.Reading.{operator-pops, operator-reads, shown-nothing, shown-constant, shown-symbol, shown-operator, pops-of}

@@ -1,11 +1,10 @@
 -- What the code's values mean: its answers as functions of the definitions, and its array of words as a stack.
-use Prim.Native.Nat.{ℕ, zero, suc, _+_, _-_, _≤_}
+use Prim.Native.Nat.{ℕ, zero, suc, _+_, _-_}
 use mathlib.Core.Path.{_≡_}
 use mathlib.Core.Bool.{Bool, true, false, cond}
 use mathlib.Core.Option.{Option, none, some}
 use mathlib.Core.List.{List, [], _∷_}
-use lib.Dec.{ltb}
-use lib.ListN.{length, getD, drop}
+use lib.ListN.{length, getD}
 use Rattle.expr.specs.declared.File.{File}
 use Rattle.expr.specs.declared.token.Read.{Read}
 use Rattle.expr.specs.declared.token.Read.the-variants as R
@@ -14,7 +13,7 @@ use Rattle.expr.specs.declared.accept.Checked.the-variants.{Fine, Broken
 use Rattle.expr.specs.declared.accept.After.{After}
 use Rattle.expr.specs.declared.accept.After.the-variants.{Stop, Next}
 use Rattle.expr.specs.Word.{unary, binary}
-use Rattle.expr.specs.Token.{Token, Const, Symbol, Un, Bin, Ite, unaryCode, binaryCode, operandCount, readToken, operator}
+use Rattle.expr.specs.Token.{Token, Const, Symbol, Un, Bin, Ite, unaryCode, binaryCode, operandCount, operator}
 use Rattle.expr.specs.Expr.{depthLimit, pops, after, fits, Parsed, Whole, Breaks}
 use Rattle.expr.specs.Eval.{Env, step, eval, top}
 

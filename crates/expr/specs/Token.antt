@@ -1,6 +1,6 @@
 -- Document 01, "Arithmetic": the tokens and their bytes.
-use Prim.Native.Nat.{ℕ, suc, _<_, _^_}
-use mathlib.Core.Bool.{Bool, true, false, cond}
+use Prim.Native.Nat.{ℕ}
+use mathlib.Core.Bool.{cond}
 use mathlib.Core.Option.{Option, none, some}
 use mathlib.Core.List.{List, [], _∷_, _++_}
 use lib.Dec.{eqb, leb}

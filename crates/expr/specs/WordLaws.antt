@@ -5,12 +5,12 @@ use native.Mathlib.Omega.{arith}
 use native.Mathlib.Nat.{add-mul, mod-lt, mod-eq-of-lt, div-le-self, pow-suc, le-of-lt, lt-of-le-of-lt, mul-le-mul-left, mul-lt-mul-of-pos-right}
 use native.Mathlib.Numerals.{sub-one}
 use mathlib.Core.Path.{_≡_, refl, sym, ap, ap₂, _∙_, subst, subst⁻¹}
-use mathlib.Core.Bool.{Bool, true, false, cond, not}
+use mathlib.Core.Bool.{Bool, true, false, cond}
 use lib.Arith.{digits-div, digits-mod}
 use lib.Dec.{eqb, ltb, leb}
 use lib.Pow.{pow-pos, pow-add, shr-lt, split}
-use lib.Bits.{bitAnd, bitOr, bitXor, differ, and-lt, or-lt, xor-lt, and-shr, or-shr, xor-shr, and-step, or-step, xor-step}
-use lib.IntN.{ℤ, pos, negsuc, subℕ}
+use lib.Bits.{differ, and-lt, or-lt, xor-lt, and-shr, or-shr, xor-shr, and-step, or-step, xor-step}
+use lib.IntN.{pos, negsuc, subℕ}
 use lib.Signed.{ltZ}
 use borrow.Author.Tests.{ltb-true, ltb-false, lt-ltb, le-ltb, ne-eqb}
 use Rattle.expr.specs.Word.{Unary, Not, Neg, Zero, Binary, Add, Sub, Mul, Udiv, Urem, And, Or, Xor, Shl, Lshr, Equal, Ult, Ule, Slt, truthy, test, remainderByZero, signed, unary, binary, choice, bit}

@@ -10,7 +10,7 @@ ghost use lib.ListN.{length, drop, set};
 ghost use Rattle.expr.specs.Token.{readToken, operator};
 ghost use Rattle.expr.specs.Expr.{below, parse};
 ghost use Rattle.expr.specs.Eval.{envOf};
-ghost use Rattle.expr.specs.Shown.{popsOf, turned, goes, isWhole, stackOf, unaryOf, binaryOf, nowhere, Stepped, sizeOf, valueOf};
+ghost use Rattle.expr.specs.Shown.{popsOf, turned, goes, isWhole, unaryOf, binaryOf, nowhere, Stepped, sizeOf, valueOf};
 
 // After a token: the words held, and the bytes that it took.
 pub struct Step {

@@ -1,19 +1,19 @@
 -- The laws of headers, frames and records: what an accepted file is, record after record from any offset.
-use Prim.Native.Nat.{ℕ, zero, suc, _+_, _-_, _*_, _^_, _≤_, _<_}
+use Prim.Native.Nat.{ℕ, zero, suc, _+_, _≤_, _<_}
 use native.Mathlib.Omega.{arith}
-use mathlib.Core.Path.{_≡_, refl, sym, ap, ap₂, _∙_, subst}
+use mathlib.Core.Path.{_≡_, refl, sym, ap, _∙_, subst}
 use mathlib.Core.Bool.{Bool, true, false, cond, _&&_}
 use mathlib.Core.List.{List, [], _∷_, _++_}
 use lib.ListN.{length, take, drop, getD, set, drop-of-length-le, List·getD-append}
 use lib.Seq.{drop-drop, drop-cons, append-snoc, sets, sets-eq}
-use lib.Dec.{leb, ltb, eqb}
+use lib.Dec.{leb, eqb}
 use borrow.Author.Tests.{eqb-true, eqb-false, eq-eqb, ne-eqb, leb-true, leb-false, le-leb, lt-leb}
 use Rattle.expr.specs.Lists.{and-both}
 use Rattle.expr.specs.Number.{numberOf}
 use Rattle.expr.specs.Token.{Token}
 use Rattle.expr.specs.Expr.{Parsed, Whole, Breaks}
 use Rattle.file.specs.Shown.{replyOf, exprReply, oneMore, readCount, offsetsFrom}
-use Rattle.file.specs.File.{headerInputs, headerCount, headerReply, Body, Good, Bad, field, rule, holding, frame, Records, Read, Stop, Input, Accepted, Refused, recordOf, before, onRecord, records, finish, readFile}
+use Rattle.file.specs.File.{headerInputs, headerCount, headerReply, Body, Good, Bad, field, rule, holding, frame, Records, Read, Stop, Accepted, Refused, recordOf, before, onRecord, records, finish, readFile}
 
 -- ---- frames
 
@@ -68,9 +68,6 @@ module _ {A : Type 0} (one : List ℕ → Body A) (bs : List ℕ) where
 -- ---- record after record, at an offset
 
 module _ {A St : Type 0} (one : St → List ℕ → Body A) (next : St → A → St) (s : List ℕ) (at c : ℕ) (σ : St) where
-  abbrev past : ℕ
-  past = at + (2 + frame (drop at s))
-
   pub records-good : (a : A) → recordOf (one σ) (drop at s) ≡ Good a
       → records one next (suc c) σ (drop at s) ≡ before a (records one next c (next σ a) (drop (at + (2 + frame (drop at s))) s))
   unfolding records

@@ -1,18 +1,17 @@
 -- A valuation of bytes is the valuation of its words.
-use Prim.Native.Nat.{ℕ, zero, suc, _+_, _*_, _≤_, _<_}
+use Prim.Native.Nat.{ℕ, zero, suc, _+_, _*_, _≤_}
 use native.Mathlib.Omega.{arith}
 use native.Mathlib.Numerals.{add-one}
 use mathlib.Core.Path.{_≡_, refl, sym, ap, ap₂, _∙_}
 use mathlib.Core.Bool.{Bool, true, false, cond}
 use mathlib.Core.List.{List, [], _∷_, _++_}
-use lib.ListN.{length, take, drop, getD, set}
+use lib.ListN.{length, take, drop, set}
 use lib.Seq.{drop-drop, sets, sets-eq, take-at}
 use lib.Dec.{eqb, leb}
 use borrow.Author.Tests.{eqb-true, eqb-false, eq-eqb, ne-eqb}
 use Rattle.expr.specs.Number.{numberOf}
-use Rattle.file.specs.File.{headerInputs, Input, Accepted, Refused}
-use Rattle.file.specs.FileLaws.{Header, header-is, IsFile, file-is, sets-snoc}
-use Rattle.table.specs.declared.Answer.{Answer}
+use Rattle.file.specs.File.{Input, Accepted, Refused}
+use Rattle.file.specs.FileLaws.{header-is, file-is, sets-snoc}
 use Rattle.table.specs.Table.{Instr, instrs, readTable}
 use Rattle.table.specs.Run.{run}
 use Rattle.table.specs.Answer.{refusal, answerOf, answered, runAnswer}

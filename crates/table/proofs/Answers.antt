@@ -1,12 +1,12 @@
 -- The answer to running, by the way that the code takes to it: the header refuses, a record refuses, the bound or the valuation is refused, the
 -- table runs.
-use Prim.Native.Nat.{ℕ, zero, suc, _+_, _-_, _*_, _≤_, _<_}
+use Prim.Native.Nat.{ℕ, zero, suc, _+_, _*_, _≤_, _<_}
 use native.Mathlib.Omega.{arith}
 use native.Mathlib.Numerals.{add-one}
 use mathlib.Core.Path.{_≡_, refl, sym, ap, ap₂, _∙_, subst}
 use mathlib.Core.Bool.{Bool, true, false, cond}
 use mathlib.Core.List.{List, [], _∷_}
-use lib.ListN.{length, take, drop, getD, replicate}
+use lib.ListN.{length, take, drop, getD}
 use lib.Seq.{sets, length-sets}
 use lib.Dec.{leb, eqb}
 use borrow.Author.Tests.{le-leb, lt-leb, eq-eqb, ne-eqb}
@@ -14,10 +14,9 @@ use Rattle.expr.specs.Lists.{All, all-drop}
 use Rattle.expr.specs.Number.{Byte}
 use Rattle.expr.specs.NumberLaws.{number-lt}
 use Rattle.expr.specs.Eval.{envOf}
-use Rattle.file.specs.File.{headerInputs, headerCount, headerReply, Body, Good, Bad, frame, Records, Read, Stop, recordOf, before, onRecord, records, Input, Accepted, Refused, finish}
+use Rattle.file.specs.File.{headerInputs, headerCount, headerReply, Body, Good, Bad, frame, Records, Read, Stop, recordOf, before, onRecord, records, Accepted, finish}
 use Rattle.file.specs.Shown.{offsetsFrom}
-use Rattle.file.specs.FileLaws.{record-good, records-good, records-bad, records-end, records-spare, records-chain, count-all, Header, header-is, file-refused, file-read, offsets-length, sets-at}
-use Rattle.table.specs.declared.Answer.{Answer}
+use Rattle.file.specs.FileLaws.{records-chain, count-all, Header, header-is, file-refused, file-read, offsets-length, sets-at}
 use Rattle.table.specs.declared.read.Reading.{Reading}
 use Rattle.table.specs.Table.{Instr, instr, instrsFrom, instrs, readTable}
 use Rattle.table.specs.TableLaws.{Low, instr-low}

@@ -1,8 +1,7 @@
 -- What a record's bytes come to, by the code's tests.
-use Prim.Native.Nat.{ℕ, _+_, _-_, _≤_, _<_}
+use Prim.Native.Nat.{ℕ, _-_, _≤_, _<_}
 use native.Mathlib.Omega.{arith}
-use mathlib.Core.Path.{_≡_, refl, sym, ap, ap₂, _∙_}
-use mathlib.Core.Bool.{true, false}
+use mathlib.Core.Path.{_≡_, refl, ap, ap₂, _∙_}
 use mathlib.Core.List.{List, []}
 use lib.ListN.{length, take, drop, getD, length-drop}
 use lib.Seq.{take-all, drop-drop}
@@ -14,10 +13,10 @@ use Rattle.expr.specs.Expr.{below, readable, Parsed, Whole, Breaks, parse}
 use Rattle.expr.specs.ExprLaws.{readable-inputs}
 use Rattle.expr.specs.Shown.{checked}
 use Rattle.file.specs.Outcome.{Assume, Assert}
-use Rattle.file.specs.File.{Body, Good, Bad, rule, holding}
+use Rattle.file.specs.File.{rule, holding}
 use Rattle.file.specs.Shown.{replyOf, exprReply}
 use Rattle.file.specs.FileLaws.{field-there, field-missing, reply-holding}
-use Rattle.table.specs.Table.{Instr, Assign, Test, IfThenGoto, assign, ifThenGoto, instr}
+use Rattle.table.specs.Table.{Assign, Test, IfThenGoto, assign, ifThenGoto, instr}
 use Rattle.table.specs.TableLaws.{kind-assign, kind-assume, kind-assert, kind-goto, kind-unknown}
 
 -- ---- the expression from a place of a record on

@@ -5,17 +5,16 @@ use native.Mathlib.Nat.{mul-le-mul-left, mul-le-mul-right}
 use native.Mathlib.Numerals.{add-one}
 use mathlib.Core.Path.{_≡_, refl, sym, ap, ap₂, _∙_, subst}
 use mathlib.Core.Bool.{Bool, true, false, cond}
-use mathlib.Core.List.{List, []}
+use mathlib.Core.List.{List}
 use lib.ListN.{length, take, drop, getD, set}
 use lib.Dec.{leb, ltb}
 use borrow.Author.Tests.{eq-eqb, ne-eqb}
 use Rattle.expr.specs.declared.File.the-variants.{Table}
 use Rattle.expr.specs.Number.{numberOf}
-use Rattle.expr.specs.Token.{Token}
 use Rattle.expr.specs.Expr.{below, Whole, parse}
-use Rattle.expr.specs.Eval.{Env, envOf, update, value}
+use Rattle.expr.specs.Eval.{Env, envOf, value}
 use Rattle.expr.specs.EvalLaws.{update-set}
-use Rattle.expr.specs.Shown.{isWhole, valueOf}
+use Rattle.expr.specs.Shown.{valueOf}
 use Rattle.file.specs.Outcome.{Bound, Failed}
 use Rattle.file.specs.File.{Body, recordOf}
 use Rattle.table.specs.declared.steps.Move.{Move}

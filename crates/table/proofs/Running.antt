@@ -1,21 +1,19 @@
 -- The loop over instructions: the run from the instruction that is reached, with fuel for all that is left, is the whole run.
-use Prim.Native.Nat.{ℕ, zero, suc, _+_, _-_, _*_, _≤_, _<_}
+use Prim.Native.Nat.{ℕ, suc, _+_, _-_, _*_, _≤_, _<_}
 use native.Mathlib.Omega.{arith}
 use native.Mathlib.Nat.{suc-mul}
 use native.Mathlib.Numerals.{add-one}
 use mathlib.Core.Path.{_≡_, refl, sym, ap, ap₂, _∙_, subst}
-use mathlib.Core.Bool.{Bool, true, false}
+use mathlib.Core.Bool.{true}
 use mathlib.Core.List.{List, [], _∷_}
 use lib.ListN.{length, drop, getD, length-drop, drop-of-length-le}
-use lib.Seq.{drop-cons}
 use Rattle.expr.specs.Lists.{All, all-drop}
 use Rattle.expr.specs.Number.{Byte}
-use Rattle.expr.specs.Eval.{Env, envOf}
-use Rattle.file.specs.Outcome.{Outcome, Ended, verdict, placeOf}
-use Rattle.file.specs.File.{headerInputs, headerCount, Body, Good, Read, recordOf, Input, Accepted, Refused}
-use Rattle.file.specs.Shown.{isGood, offsetsFrom}
+use Rattle.expr.specs.Eval.{envOf}
+use Rattle.file.specs.Outcome.{verdict, placeOf}
+use Rattle.file.specs.File.{headerInputs, headerCount, Good, Read, recordOf, Input, Accepted, Refused}
+use Rattle.file.specs.Shown.{offsetsFrom}
 use Rattle.file.specs.FileLaws.{IsFile, file-is}
-use Rattle.table.specs.declared.Answer.{Answer}
 use Rattle.table.specs.declared.steps.Move.{Move}
 use Rattle.table.specs.declared.steps.Move.the-variants as M
 use Rattle.table.specs.Table.{Instr, instr, instrs, readTable}
@@ -23,7 +21,7 @@ use Rattle.table.specs.TableLaws.{InstrOk, IsTable, table-ok, instr-at, 
 use Rattle.table.specs.Run.{Next, Halt, Go, step, stepAt, Ran, onward, runFrom}
 use Rattle.table.specs.RunLaws.{left, Leads, fails, goes, step-leads, fuel-enough}
 use Rattle.table.specs.Answer.{answerOf}
-use Rattle.table.specs.Shown.{Moved, stepBody, isAccepted, listed, Ready}
+use Rattle.table.specs.Shown.{Moved, stepBody, isAccepted, listed}
 
 -- what an accepted table has for the run
 pub record Loaded (s : List ℕ) (S : ℕ) (is : List Instr) : Type 0 where

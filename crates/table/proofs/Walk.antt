@@ -1,14 +1,14 @@
 -- The loop over a table's records: what the rest answers, with the records before it counted, is what the whole answers; the offsets of the
 -- records before it are stored.
-use Prim.Native.Nat.{ℕ, zero, suc, _+_, _-_, _≤_, _<_}
+use Prim.Native.Nat.{ℕ, suc, _+_, _-_, _≤_, _<_}
 use native.Mathlib.Omega.{arith}
-use mathlib.Core.Path.{_≡_, refl, sym, ap, ap₂, _∙_, subst}
-use mathlib.Core.List.{List, [], _∷_, _++_}
+use mathlib.Core.Path.{_≡_, refl, sym, ap, ap₂, _∙_}
+use mathlib.Core.List.{List, []}
 use lib.ListN.{length, take, drop, set, length-drop}
 use lib.Seq.{sets, length-sets, length-take-le, drop-drop}
 use Rattle.file.specs.File.{Body, Good, Bad, frame, Records, Read, Stop, recordOf, before}
 use Rattle.file.specs.Shown.{replyOf, readCount, offsetsFrom}
-use Rattle.file.specs.FileLaws.{Framed, framed, record-framed, record-unframed, records-good, records-bad, count-good, count-bad, records-end, records-spare, offsets-length, Reached, reached-start, reached-next, reached-on, sets-snoc}
+use Rattle.file.specs.FileLaws.{framed, record-framed, records-good, records-bad, count-good, count-bad, records-end, records-spare, offsets-length, Reached, reached-start, reached-next, reached-on, sets-snoc}
 use Rattle.table.specs.declared.read.Reading.{Reading}
 use Rattle.table.specs.Table.{Instr, instr, instrsFrom}
 use Rattle.table.specs.TableLaws.{Low}
@@ -46,9 +46,6 @@ module _ (s : List ℕ) (S n at len : ℕ) (e : len ≡ frame (drop at s)) (h : 
       ∙ ap₂ (λ l r. instr S n (take l r)) (sym e ∙ (let z : len ≡ at + (2 + len) - (at + 2) = omega arith in z)) (drop-drop 2 at s)
 
 module _ (s : List ℕ) (S n : ℕ) (off₀ : List ℕ) where
-  abbrev answerAt : (at k : ℕ) → Reading
-  answerAt at k = readingOf (length s) (k + instrCount S n (n - k) (drop at s)) (instrsFrom S n (n - k) (drop at s))
-
   abbrev answer : Reading
   answer = readingOf (length s) (instrCount S n n (drop 6 s)) (instrsFrom S n n (drop 6 s))
 

@@ -5,7 +5,6 @@ use mathlib.Core.List.{List, [], _∷_}
 use lib.ListN.{length, drop}
 use lib.Dec.{leb, ltb}
 use Rattle.expr.specs.Word.{truthy}
-use Rattle.expr.specs.Token.{Token}
 use Rattle.expr.specs.Eval.{Env, envOf, update, value}
 use Rattle.file.specs.Outcome.{Bound, Outcome, Ended, Failed, Lost}
 use Rattle.table.specs.Table.{Instr, Assign, Test, IfThenGoto}

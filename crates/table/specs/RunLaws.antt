@@ -2,22 +2,20 @@
 use Prim.Native.Nat.{ℕ, zero, suc, _+_, _-_, _*_, _≤_, _<_}
 use native.Mathlib.Omega.{arith}
 use native.Mathlib.Nat.{suc-mul}
-use mathlib.Core.Path.{_≡_, refl, sym, ap, _∙_, subst}
+use mathlib.Core.Path.{_≡_, refl, ap, _∙_, subst}
 use mathlib.Core.Bool.{Bool, true, false, cond}
 use mathlib.Core.List.{List, [], _∷_}
 use lib.ListN.{length, drop, length-drop}
 use lib.Dec.{eqb, leb, ltb}
-use borrow.Author.Tests.{leb-true, leb-false, ltb-true}
+use borrow.Author.Tests.{leb-false, ltb-true}
 use Rattle.expr.specs.Lists.{All, all-drop}
 use Rattle.expr.specs.Word.{Word, truthy}
 use Rattle.expr.specs.declared.File.the-variants.{Table}
-use Rattle.expr.specs.Token.{Token}
-use Rattle.expr.specs.TokenLaws.{Holds}
 use Rattle.expr.specs.Eval.{Env, envOf, update, value}
 use Rattle.expr.specs.EvalLaws.{value-word}
-use Rattle.file.specs.Outcome.{Kind, Bound, Outcome, Ended, Failed, Lost}
+use Rattle.file.specs.Outcome.{Kind, Bound, Failed, Lost}
 use Rattle.table.specs.Table.{Instr, Assign, Test, IfThenGoto}
-use Rattle.table.specs.TableLaws.{ExprOk, InstrOk}
+use Rattle.table.specs.TableLaws.{InstrOk}
 use Rattle.table.specs.Run.{placeIn, Next, Halt, Go, jump, step, stepAt, Ran, onward, runFrom, run}
 
 -- ---- what a step leads to

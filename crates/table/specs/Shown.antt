@@ -1,5 +1,5 @@
 -- What the code's values mean: its answers as functions of the definitions.
-use Prim.Native.Nat.{ℕ, _+_, _-_, _≤_, _<_}
+use Prim.Native.Nat.{ℕ, _-_, _≤_, _<_}
 use mathlib.Core.Path.{_≡_}
 use mathlib.Core.Bool.{Bool, true, false, cond}
 use mathlib.Core.List.{List, []}
@@ -8,10 +8,9 @@ use lib.Seq.{sets}
 use lib.Dec.{eqb}
 use Rattle.expr.specs.Token.{Token}
 use Rattle.expr.specs.Eval.{Env, envOf, value}
-use Rattle.file.specs.Outcome.{Kind, Assume, Assert, Outcome, Lost, verdict, placeOf}
-use Rattle.file.specs.File.{headerInputs, headerCount, Body, Good, Bad, recordOf, Records, Read, Stop, Input, Accepted, Refused}
-use Rattle.file.specs.Shown.{isGood, readCount, offsetsFrom}
-use Rattle.table.specs.declared.Answer.{Answer}
+use Rattle.file.specs.Outcome.{Kind, Assume, Assert, Lost, verdict, placeOf}
+use Rattle.file.specs.File.{headerInputs, headerCount, Body, Good, Bad, Records, Read, Stop, Input, Accepted, Refused}
+use Rattle.file.specs.Shown.{readCount, offsetsFrom}
 use Rattle.table.specs.declared.read.Reading.{Reading}
 use Rattle.table.specs.declared.steps.Move.{Move}
 use Rattle.table.specs.declared.steps.Move.the-variants as M

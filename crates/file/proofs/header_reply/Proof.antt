@@ -1,7 +1,6 @@
 use Rattle.file.specs.File.{headerReply}
 use borrow.Author.Tests.{lt-leb, le-leb, eq-eqb, ne-eqb}
 use mathlib.Core.Path.{sym, _∙_}
-use native.Mathlib.Omega.{arith}
 use borrow.Author.Needs.{needs}
 use Rattle.file.proofs.header_reply.Statement.{statement}
 use Rattle.file.proofs.header_reply.Tie as tie

@@ -1,6 +1,6 @@
 use native.Mathlib.Omega.{arith}
-use mathlib.Core.Path.{_≡_, sym, ap, _∙_}
-use Prim.Native.Nat.{ℕ, _*_, _/_}
+use mathlib.Core.Path.{sym, ap, _∙_}
+use Prim.Native.Nat.{ℕ, _/_}
 use lib.ListN.{length, take, replicate, length-replicate}
 use lib.Seq.{length-take-le, length-sets}
 use Rattle.table.specs.Answer.{runAnswer}

@@ -4,9 +4,9 @@ use Rattle.table.specs.Table.{readTable}
 use Rattle.table.specs.Run.{runFrom}
 use Rattle.table.specs.Answer.{answerOf}
 use native.Mathlib.Omega.{arith}
-use mathlib.Core.Path.{_≡_, refl, sym, ap, ap₂, _∙_, subst}
+use mathlib.Core.Path.{_≡_, sym, ap, _∙_, subst}
 use mathlib.Core.List.{List}
-use lib.ListN.{length, replicate, length-replicate}
+use lib.ListN.{replicate, length-replicate}
 use Rattle.expr.specs.Lists.{All, all-at}
 use Rattle.expr.specs.Number.{Byte}
 use Rattle.expr.specs.NumberLaws.{byte-at}

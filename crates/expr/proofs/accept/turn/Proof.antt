@@ -3,7 +3,7 @@ use Rattle.expr.specs.ExprLaws.{depthLimit-le}
 use Rattle.expr.specs.declared.accept.After.{After}
 use Rattle.expr.specs.declared.accept.After.the-variants.{Next}
 use native.Mathlib.Omega.{arith}
-use mathlib.Core.Path.{_≡_, refl, sym, ap, _∙_}
+use mathlib.Core.Path.{sym, ap, _∙_}
 use Rattle.expr.proofs.Turns.{nothing-stops, constant-next, constant-full, symbol-next, symbol-full, symbol-unknown, operator-next, operator-short}
 use Prim.Native.Nat.{ℕ, _+_, _-_}
 use mathlib.Core.Bool.{Bool}

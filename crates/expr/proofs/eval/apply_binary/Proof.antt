@@ -1,4 +1,3 @@
-use native.Mathlib.Omega.{arith}
 use Rattle.expr.proofs.Steps.{binary-steps}
 use borrow.Author.Needs.{needs}
 use Rattle.expr.proofs.eval.apply_binary.Statement.{statement}

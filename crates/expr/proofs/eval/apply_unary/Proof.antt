@@ -1,5 +1,3 @@
-use mathlib.Core.Path.{_∙_}
-use native.Mathlib.Omega.{arith}
 use Rattle.expr.proofs.Steps.{unary-steps}
 use borrow.Author.Needs.{needs}
 use Rattle.expr.proofs.eval.apply_unary.Statement.{statement}

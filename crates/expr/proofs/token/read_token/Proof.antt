@@ -1,7 +1,7 @@
 use Rattle.expr.specs.declared.token.Read.{Read}
 use Rattle.expr.specs.declared.token.Read.the-variants as R
 use native.Mathlib.Omega.{arith}
-use mathlib.Core.Path.{_≡_, sym, ap, _∙_}
+use mathlib.Core.Path.{sym, ap, _∙_}
 use Rattle.expr.proofs.Reading.{constant-short, constant-there, symbol-short, symbol-there, operator-there, no-operator, some-operator}
 use Rattle.expr.specs.Shown.{shownToken}
 use borrow.Author.Needs.{needs}

@@ -1,4 +1,3 @@
-use native.Mathlib.Omega.{arith}
 use mathlib.Core.Path.{sym, _∙_}
 use Rattle.table.proofs.Bodies.{assign-short, assign-rule, assign-expr, goto-short, goto-rule, goto-expr, assume-expr, assert-expr, unknown}
 use borrow.Author.Needs.{needs}

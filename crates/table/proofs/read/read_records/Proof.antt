@@ -1,13 +1,12 @@
 -- The invariant is `Walking`: see there. Each turn reads one record.
-use Prim.Native.Nat.{ℕ, _+_, _-_, _≤_}
+use Prim.Native.Nat.{_+_, _-_, _≤_}
 use native.Mathlib.Omega.{arith}
-use mathlib.Core.Path.{_≡_, sym, ap, _∙_, subst}
+use mathlib.Core.Path.{_≡_, sym, _∙_, subst}
 use lib.ListN.{length, take, drop, set}
-use lib.Seq.{length-sets}
 use borrow.Author.Needs.{needs}
-use Rattle.file.specs.File.{Good, frame, recordOf}
+use Rattle.file.specs.File.{recordOf}
 use Rattle.file.specs.FileLaws.{record-unframed}
-use Rattle.table.specs.Table.{Instr, instr}
+use Rattle.table.specs.Table.{instr}
 use Rattle.table.specs.TableLaws.{instr-low}
 use Rattle.table.proofs.Walk.{reply-bad, reply-good, record-inside, cut-long, record-cut, Walking, long, start, refuse, on, done, spare}
 use Rattle.table.proofs.read.read_records.Statement.{statement}

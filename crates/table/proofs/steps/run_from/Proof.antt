@@ -1,18 +1,18 @@
 -- The invariant is `Running`: see there. Each turn leaves fewer instructions to come to.
-use Prim.Native.Nat.{ℕ, _+_, _-_, _*_, _≤_, _<_}
+use Prim.Native.Nat.{ℕ, _≤_}
 use native.Mathlib.Omega.{arith}
-use mathlib.Core.Path.{_≡_, refl, sym, ap, _∙_, subst}
+use mathlib.Core.Path.{_≡_, refl, sym, ap, _∙_}
 use mathlib.Core.List.{List}
 use borrow.Author.Needs.{needs}
-use lib.ListN.{length, drop, getD}
+use lib.ListN.{length}
 use Rattle.expr.specs.Lists.{All, all-at}
 use Rattle.expr.specs.Number.{Byte}
 use Rattle.file.specs.File.{headerInputs}
 use Rattle.file.specs.Shown.{isGood}
-use Rattle.table.specs.Table.{Instr, readTable}
+use Rattle.table.specs.Table.{readTable}
 use Rattle.table.specs.RunLaws.{left}
 use Rattle.table.specs.Shown.{listed}
-use Rattle.table.proofs.Running.{Loaded, loaded, Running, On, Here, start, here, end, halts, goes-on}
+use Rattle.table.proofs.Running.{Loaded, loaded, Running, On, start, here, end, halts, goes-on}
 use Rattle.table.proofs.steps.run_from.Statement.{statement}
 use Rattle.table.proofs.steps.run_from.Tie as tie
 

@@ -1,5 +1,4 @@
 use native.Mathlib.Omega.{arith}
-use mathlib.Core.Path.{sym, ap, _∙_}
 use lib.ListN.{length}
 use Rattle.table.proofs.Held.{Held, held-at}
 use Rattle.table.proofs.Moves.{place-lt, place-is, assign-moves, goto-stays, goto-jumps, test-fails, test-holds}

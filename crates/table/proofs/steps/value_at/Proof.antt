@@ -1,7 +1,6 @@
 use native.Mathlib.Omega.{arith}
-use mathlib.Core.Path.{sym, ap, _∙_}
+use mathlib.Core.Path.{ap, _∙_}
 use lib.ListN.{length}
-use mathlib.Core.Bool.{true}
 use Rattle.expr.specs.Eval.{envOf}
 use Rattle.expr.specs.Shown.{isWhole}
 use Rattle.table.proofs.Held.{Held, held-at}

@@ -1,7 +1,6 @@
 -- The invariant is `Copied`: see there.
 use Prim.Native.Nat.{_-_}
 use native.Mathlib.Omega.{arith}
-use borrow.Author.Needs.{needs}
 use lib.ListN.{length}
 use Rattle.table.proofs.Copies.{Copied, start, on, end}
 use Rattle.table.proofs.steps.values.Statement.{statement}
