@@ -1,9 +1,10 @@
 -- What the laws say of lists and tests in general.
-use Prim.Native.Nat.{ℕ, zero, suc, _<_}
+use Prim.Native.Nat.{ℕ, zero, suc, _-_, _<_}
 use native.Mathlib.Omega.{arith}
-use mathlib.Core.Path.{_≡_, refl, ap, _∙_}
+use mathlib.Core.Path.{_≡_, refl, sym, ap, _∙_}
 use mathlib.Core.Bool.{Bool, true, false, _&&_, _||_}
 use mathlib.Core.List.{List, [], _∷_}
+use lib.Seq.{take-nil}
 use lib.Dec.{eqb}
 use lib.ListN.{length, take, drop, getD}
 use borrow.Author.Tests.{eqb-true, eqb-false}
@@ -28,6 +29,14 @@ all-take P (suc k) (x ∷ xs) h = (h .0, all-take P k xs (h .1))
 pub all-at : (P : ℕ → Type 0) (xs : List ℕ) → ((i : ℕ) → i < length xs → P (getD xs i 0)) → All P xs
 all-at P [] h = tt
 all-at P (x ∷ xs) h = (h 0 (omega arith), all-at P xs (λ i k. h (suc i) (omega arith)))
+
+-- ---- parts of parts
+
+pub drop-take : (k l : ℕ) (xs : List ℕ) → drop k (take l xs) ≡ take (l - k) (drop k xs)
+drop-take zero l xs = ap (λ n. take n xs) (let e : l ≡ l - 0 = omega arith in e)
+drop-take (suc k) zero xs = sym (ap (λ n. take n (drop (suc k) xs)) (let e : 0 - suc k ≡ 0 = omega arith in e))
+drop-take (suc k) (suc l) [] = sym (take-nil (suc l - suc k))
+drop-take (suc k) (suc l) (x ∷ xs) = drop-take k l xs ∙ ap (λ n. take n (drop k xs)) (let e : l - k ≡ suc l - suc k = omega arith in e)
 
 -- ---- tests
 

@@ -68,6 +68,14 @@ bytes-read k bs o h =
     ∙ after-same 0 0 k (bytesOf k n) bs (bytesOf-bytes k n) o (omega arith) h
     (ap (numberOf k) (sym (append-nil (bytesOf k n))) ∙ number-written k n [] (number-lt k bs o)) .1
 
+-- ---- in a part
+
+pub number-take : (a j l : ℕ) (xs : List ℕ) → j ≤ l → numberAfter a j (take l xs) ≡ numberAfter a j xs
+number-take a zero l xs h = refl
+number-take a (suc j) zero xs h = absurd (omega arith)
+number-take a (suc j) (suc l) [] h = refl
+number-take a (suc j) (suc l) (x ∷ xs) h = number-take (a * 256 + x) j l xs (omega arith)
+
 -- ---- at an offset
 
 module _ (s : List ℕ) (i : ℕ) where

@@ -1,18 +1,21 @@
 -- The laws of headers, frames and records: what an accepted file is, record after record from any offset.
-use Prim.Native.Nat.{ℕ, zero, suc, _+_, _≤_, _<_}
+use Prim.Native.Nat.{ℕ, zero, suc, _+_, _-_, _≤_, _<_}
 use native.Mathlib.Omega.{arith}
-use mathlib.Core.Path.{_≡_, refl, sym, ap, _∙_, subst}
+use native.Mathlib.Numerals.{add-one}
+use native.Mathlib.Decide.{decLt}
+use mathlib.Core.Path.{_≡_, refl, sym, ap, ap₂, _∙_, subst, fun-ext}
 use mathlib.Core.Bool.{Bool, true, false, cond, _&&_}
 use mathlib.Core.List.{List, [], _∷_, _++_}
-use lib.ListN.{length, take, drop, getD, set, drop-of-length-le, List·getD-append}
-use lib.Seq.{drop-drop, drop-cons, append-snoc, sets, sets-eq}
+use lib.ListN.{length, take, drop, getD, set, length-drop, replicate, length-replicate, getD-replicate, drop-of-length-le, List·getD-append, List·getD-eq-default}
+use lib.Seq.{length-take-le, take-suc, drop-drop, drop-cons, getD-drop, getD-append-add, append-snoc, sets, sets-eq}
 use lib.Dec.{leb, eqb}
 use borrow.Author.Tests.{eqb-true, eqb-false, eq-eqb, ne-eqb, leb-true, leb-false, le-leb, lt-leb}
 use Rattle.expr.specs.Lists.{and-both}
 use Rattle.expr.specs.Number.{numberOf}
 use Rattle.expr.specs.Token.{Token}
 use Rattle.expr.specs.Expr.{Parsed, Whole, Breaks}
-use Rattle.file.specs.Shown.{replyOf, exprReply, oneMore, readCount, offsetsFrom}
+use Rattle.expr.specs.Eval.{envOf}
+use Rattle.file.specs.Shown.{replyOf, exprReply, oneMore, readCount, afterGood, readFold, readingOf, offsetsFrom}
 use Rattle.file.specs.File.{headerInputs, headerCount, headerReply, Body, Good, Bad, field, rule, holding, frame, Records, Read, Stop, Accepted, Refused, recordOf, before, onRecord, records, finish, readFile}
 
 -- ---- frames
@@ -65,6 +68,71 @@ module _ {A : Type 0} (one : List ℕ → Body A) (bs : List ℕ) where
       go true e = absurd (let z = sym h ∙ record-unframed (eqb-true (frame bs) 0 e) in let y : _≡_ {A = ℕ} 0 1 = cc in omega arith)
       go false e = (eqb-false (frame bs) 0 e, sym (record-framed (eqb-false (frame bs) 0 e)) ∙ h)
 
+-- the record at an offset, as the code cuts it out
+module _ {A : Type 0} (one : List ℕ → Body A) (s : List ℕ) (at len : ℕ) (e : len ≡ frame (drop at s)) (h : len ≡ 0 → ⊥) where
+  some-frame : frame (drop at s) ≡ 0 → ⊥
+  some-frame z = h (e ∙ z)
+
+  pub record-inside : at + (2 + len) ≤ length s
+  record-inside = let f = framed (drop at s) some-frame in omega (arith, f .inside, length-drop at s)
+
+  pub cut-long : 0 < length (take (at + (2 + len) - (at + 2)) (drop (at + 2) s))
+  cut-long =
+      let l = length-take-le (at + (2 + len) - (at + 2)) (drop (at + 2) s) (omega (arith, record-inside, length-drop (at + 2) s)) in
+      omega (arith, h)
+
+  pub record-cut : recordOf one (drop at s) ≡ one (take (at + (2 + len) - (at + 2)) (drop (at + 2) s))
+  record-cut =
+      record-framed one (drop at s) some-frame
+      ∙ ap₂ (λ l r. one (take l r)) (sym e ∙ (let z : len ≡ at + (2 + len) - (at + 2) = omega arith in z)) (drop-drop 2 at s)
+
+-- ---- replies
+
+-- a record that is refused has the reply 5, 6 or 7
+abbrev pub Low : {A : Type 0} → Body A → Type 0
+Low (Good x) = Unit {0}
+Low (Bad r) = (5 ≤ r) × (r ≤ 7)
+
+module _ {A : Type 0} where
+  pub holding-low : (f : List Token → A) (p : Parsed) → Low (holding f p)
+  holding-low f (Whole e) = tt
+  holding-low f (Breaks bs) = (omega arith, omega arith)
+
+  pub cond-low : (b : Bool) (x y : Body A) → Low x → Low y → Low (cond b x y)
+  cond-low true x y h k = h
+  cond-low false x y h k = k
+
+  -- a reply that is not 0 is a refusal's; one that is 0 is a thing's
+  pub reply-bad : (x : Body A) (r : ℕ) → r ≡ replyOf x → (r ≡ 0 → ⊥) → x ≡ Bad r
+  reply-bad (Good a) r e h = absurd (h e)
+  reply-bad (Bad q) r e h = ap {B = Body A} Bad (sym e)
+
+  pub reply-good : (x : Body A) (r : ℕ) → Low x → r ≡ replyOf x → r ≡ 0 → (a : A) × (x ≡ Good a)
+  reply-good (Good a) r l e h = (a, refl)
+  reply-good (Bad q) r l e h = absurd (let k : 5 ≤ q = l .0 in omega arith)
+
+  record-low : (one : List ℕ → Body A) → ((bs : List ℕ) → Low (one bs)) → (bs : List ℕ) → Low (recordOf one bs)
+  unfolding recordOf
+  record-low one low bs = cond-low (eqb (frame bs) 0) (Bad 5) (one (take (frame bs) (drop 2 bs))) (omega arith, omega arith) (low (take (frame bs) (drop 2 bs)))
+
+-- the records' reply is not 0
+pub stop-low : {A St : Type 0} (one : St → List ℕ → Body A) (next : St → A → St) → ((σ : St) (bs : List ℕ) → Low (one σ bs))
+    → (c : ℕ) (σ : St) (bs : List ℕ) (r : ℕ) (rest : List ℕ) → records one next c σ bs ≡ Stop r rest → 0 < r
+unfolding records
+stop-low one next low zero σ [] r rest e = absurd (let z : _≡_ {A = ℕ} 0 1 = cc in omega arith)
+stop-low one next low zero σ (b ∷ bs) r rest e = let z : 5 ≡ r = cc in omega arith
+stop-low {A = A} one next low (suc c) σ bs r rest e = go (recordOf (one σ) bs) (record-low (one σ) (low σ) bs) e (λ a. stop-low one next low c (next σ a) (drop (2 + frame bs) bs))
+  where
+    on : (a : A) (p : Records A) → records one next c (next σ a) (drop (2 + frame bs) bs) ≡ p → before a p ≡ Stop r rest
+        → ((q : ℕ) (xs : List ℕ) → records one next c (next σ a) (drop (2 + frame bs) bs) ≡ Stop q xs → 0 < q) → 0 < r
+    on a (Read xs) f e ih = absurd (let z : _≡_ {A = ℕ} 0 1 = cc in omega arith)
+    on a (Stop q xs) f e ih = let z : q ≡ r = cc in omega (arith, ih q xs f)
+
+    go : (x : Body A) → Low x → onRecord bs x (λ a. records one next c (next σ a) (drop (2 + frame bs) bs)) ≡ Stop r rest
+        → ((a : A) (q : ℕ) (xs : List ℕ) → records one next c (next σ a) (drop (2 + frame bs) bs) ≡ Stop q xs → 0 < q) → 0 < r
+    go (Bad q) l e ih = let z : q ≡ r = cc in omega (arith, l .0)
+    go (Good a) l e ih = on a (records one next c (next σ a) (drop (2 + frame bs) bs)) refl e (ih a)
+
 -- ---- record after record, at an offset
 
 module _ {A St : Type 0} (one : St → List ℕ → Body A) (next : St → A → St) (s : List ℕ) (at c : ℕ) (σ : St) where
@@ -86,6 +154,17 @@ module _ {A St : Type 0} (one : St → List ℕ → Body A) (next : St → A →
       ap (λ x. oneMore one next x (λ a. readCount one next c (next σ a) (drop (2 + frame (drop at s)) (drop at s)))) e
       ∙ ap (λ r. suc (readCount one next c (next σ a) r)) (drop-drop (2 + frame (drop at s)) at s)
 
+  pub fold-good : {B : Type 0} (f : B → A → B) (b : B) (a : A) → recordOf (one σ) (drop at s) ≡ Good a
+      → readFold one next f b (suc c) σ (drop at s) ≡ readFold one next f (f b a) c (next σ a) (drop (at + (2 + frame (drop at s))) s)
+  unfolding readFold
+  fold-good f b a e =
+      ap (λ x. afterGood one next b x (λ a. readFold one next f (f b a) c (next σ a) (drop (2 + frame (drop at s)) (drop at s)))) e
+      ∙ ap (readFold one next f (f b a) c (next σ a)) (drop-drop (2 + frame (drop at s)) at s)
+
+  pub fold-bad : {B : Type 0} (f : B → A → B) (b : B) (r : ℕ) → recordOf (one σ) (drop at s) ≡ Bad r → readFold one next f b (suc c) σ (drop at s) ≡ b
+  unfolding readFold
+  fold-bad f b r e = ap (λ x. afterGood one next b x (λ a. readFold one next f (f b a) c (next σ a) (drop (2 + frame (drop at s)) (drop at s)))) e
+
   pub count-bad : (r : ℕ) → recordOf (one σ) (drop at s) ≡ Bad r → readCount one next (suc c) σ (drop at s) ≡ 0
   unfolding readCount
   count-bad r e = ap (λ x. oneMore one next x (λ a. readCount one next c (next σ a) (drop (2 + frame (drop at s)) (drop at s)))) e
@@ -98,6 +177,14 @@ module _ {A St : Type 0} (one : St → List ℕ → Body A) (next : St → A →
   pub records-spare : at < length s → records one next 0 σ (drop at s) ≡ Stop 5 (drop at s)
   unfolding records
   records-spare h = ap (records one next 0 σ) (drop-cons s at 0 h) ∙ ap {B = Records A} (Stop 5) (sym (drop-cons s at 0 h))
+
+pub reading-before : {A : Type 0} (total count : ℕ) (a : A) (p : Records A) → readingOf total count (before a p) ≡ readingOf total count p
+reading-before total count a (Read xs) = refl
+reading-before total count a (Stop r bs) = refl
+
+pub reading-offset : {A : Type 0} (total count : ℕ) (p : Records A) → (readingOf total count p) .offset ≤ total
+reading-offset total count (Read xs) = omega arith
+reading-offset total count (Stop r bs) = omega arith
 
 -- ---- what is read
 
@@ -252,6 +339,32 @@ pub sets-at : (xs vs : List ℕ) (k : ℕ) → length vs ≤ length xs → k < l
 sets-at xs vs k h l =
     ap (λ r. getD r k 0) (sets-eq vs xs 0 (omega arith))
     ∙ List·getD-append vs (drop (0 + length vs) xs) 0 k l
+
+-- ---- words at the front of zeros
+
+pub copy-next : (xs ws : List ℕ) (s : ℕ) → s < length ws → set (sets xs 0 (take s ws)) s (getD ws s 0) ≡ sets xs 0 (take (s + 1) ws)
+copy-next xs ws s h =
+    ap (λ k. set (sets xs 0 (take s ws)) k (getD ws s 0)) (let e : s ≡ 0 + length (take s ws) = omega (arith, length-take-le s ws (omega arith)) in e)
+    ∙ sym (sets-snoc xs 0 (take s ws) (getD ws s 0))
+    ∙ sym (ap (sets xs 0) (ap (λ n. take n ws) (add-one s) ∙ take-suc ws s 0 h))
+
+zeros : (n x : ℕ) → _≡_ {A = ℕ} (getD (replicate n 0) x 0) 0
+zeros n x = elim (decLt x n) [ yes h ↦ getD-replicate n x 0 0 h | no h ↦ List·getD-eq-default (replicate n 0) 0 {n = x} (omega (arith, length-replicate {A = ℕ} n 0)) ]
+
+-- the values of symbols past the words are 0 in both
+pub copy-env : (n : ℕ) (ws : List ℕ) → length ws ≤ n → envOf (sets (replicate n 0) 0 ws) ≡ envOf ws
+copy-env n ws h = fun-ext (λ x. elim (decLt x (length ws)) [ yes l ↦ sets-at (replicate n 0) ws x (omega (arith, length-replicate {A = ℕ} n 0)) l | no l ↦ past x (omega arith) ])
+  where
+    past : (x : ℕ) → length ws ≤ x → getD (sets (replicate n 0) 0 ws) x 0 ≡ getD ws x 0
+    past x l =
+        let m = length ws in
+        let k = x - length ws in
+        ap (λ r. getD r x 0) (sets-eq ws (replicate n 0) 0 (omega (arith, length-replicate {A = ℕ} n 0)))
+        ∙ ap (λ y. getD (ws ++ drop (0 + m) (replicate n 0)) y 0) (let e : x ≡ m + k = omega arith in e)
+        ∙ getD-append-add ws (drop (0 + m) (replicate n 0)) k 0
+        ∙ getD-drop (0 + m) (replicate n 0) k 0
+        ∙ zeros n (0 + m + k)
+        ∙ sym (List·getD-eq-default ws 0 {n = x} l)
 
 -- ---- fields, rules, expressions
 

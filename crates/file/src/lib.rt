@@ -3,7 +3,16 @@ use expr::number;
 ghost use mathlib.Core.Path.{_≡_};
 ghost use Prim.Native.Nat.{_≤_};
 ghost use lib.ListN.{length, drop};
+ghost use lib.Seq.{sets};
 ghost use Rattle.file.specs.File.{headerReply, frame};
+
+// How far the records of a file were read: a reply with its offset, 0 if all are there and nothing after them; and the number of records
+// that were read before it.
+pub struct Reading {
+    pub reply: u8,
+    pub offset: usize,
+    pub count: usize,
+}
 
 // The first of the replies 1 to 4 that a header gets, or 0.
 pub fn header_reply(s: &[u8], version: u8, limit: usize) -> u8
@@ -41,4 +50,16 @@ pub fn frame_at(s: &[u8], at: usize) -> usize
         return 0;
     }
     len
+}
+
+// Copies the words of a valuation to the front of an array.
+pub fn copy_words(words: &[u32], cells: &mut [u32])
+    requires { ⌜ length (now words) ≤ length (now cells) ⌝ }
+    ensures { λ _. ⌜ now (cells .exit) ≡ sets (now (cells .entry)) 0 (now (words .entry)) ⌝ }
+{
+    let mut s: usize = 0;
+    while s < words.len() {
+        cells[s] = words[s];
+        s += 1;
+    }
 }

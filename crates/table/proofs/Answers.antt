@@ -15,40 +15,14 @@ use Rattle.expr.specs.Number.{Byte}
 use Rattle.expr.specs.NumberLaws.{number-lt}
 use Rattle.expr.specs.Eval.{envOf}
 use Rattle.file.specs.File.{headerInputs, headerCount, headerReply, Body, Good, Bad, frame, Records, Read, Stop, recordOf, before, onRecord, records, Accepted, finish}
-use Rattle.file.specs.Shown.{offsetsFrom}
-use Rattle.file.specs.FileLaws.{records-chain, count-all, Header, header-is, file-refused, file-read, offsets-length, sets-at}
-use Rattle.table.specs.declared.read.Reading.{Reading}
+use Rattle.file.specs.Shown.{isAccepted, listed, offsetsFrom, readingOf}
+use Rattle.file.specs.FileLaws.{stop-low, reading-offset, records-chain, count-all, Header, header-is, file-refused, file-read, offsets-length, sets-at}
+use Rattle.file.specs.declared.Reading.{Reading}
 use Rattle.table.specs.Table.{Instr, instr, instrsFrom, instrs, readTable}
-use Rattle.table.specs.TableLaws.{Low, instr-low}
+use Rattle.table.specs.TableLaws.{instr-low}
 use Rattle.table.specs.Run.{runFrom, run}
 use Rattle.table.specs.Answer.{refusal, answerOf, answered, runAnswer}
-use Rattle.table.specs.Shown.{instrCount, readingOf, ReadRecords, isAccepted, listed, Ready}
-
--- ---- replies are not 0
-
-framed-low : (S n : ℕ) (bs : List ℕ) → Low (recordOf (instr S n) bs)
-unfolding recordOf
-framed-low S n bs = go (eqb (frame bs) 0)
-  where
-    go : (b : Bool) → Low (cond b (Bad 5) (instr S n (take (frame bs) (drop 2 bs))))
-    go true = (omega arith, omega arith)
-    go false = instr-low S n (take (frame bs) (drop 2 bs))
-
-stop-low : (S n c : ℕ) (bs : List ℕ) (r : ℕ) (rest : List ℕ) → instrsFrom S n c bs ≡ Stop r rest → 0 < r
-unfolding records
-stop-low S n zero [] r rest e = absurd (let z : _≡_ {A = ℕ} 0 1 = cc in omega arith)
-stop-low S n zero (b ∷ bs) r rest e = let z : 5 ≡ r = cc in omega arith
-stop-low S n (suc c) bs r rest e = go (recordOf (instr S n) bs) (framed-low S n bs) e (stop-low S n c (drop (2 + frame bs) bs))
-  where
-    on : (a : Instr) (p : Records Instr) → instrsFrom S n c (drop (2 + frame bs) bs) ≡ p → before a p ≡ Stop r rest
-        → ((q : ℕ) (xs : List ℕ) → instrsFrom S n c (drop (2 + frame bs) bs) ≡ Stop q xs → 0 < q) → 0 < r
-    on a (Read xs) f e ih = absurd (let z : _≡_ {A = ℕ} 0 1 = cc in omega arith)
-    on a (Stop q xs) f e ih = let z : q ≡ r = cc in omega (arith, ih q xs f)
-
-    go : (x : Body Instr) → Low x → onRecord bs x (λ a. instrsFrom S n c (drop (2 + frame bs) bs)) ≡ Stop r rest
-        → ((q : ℕ) (xs : List ℕ) → instrsFrom S n c (drop (2 + frame bs) bs) ≡ Stop q xs → 0 < q) → 0 < r
-    go (Bad q) l e ih = let z : q ≡ r = cc in omega (arith, l .0)
-    go (Good a) l e ih = on a (instrsFrom S n c (drop (2 + frame bs) bs)) refl e ih
+use Rattle.table.specs.Shown.{instrCount, ReadRecords, Ready}
 
 -- ---- the header refuses
 
@@ -81,12 +55,8 @@ module _ (s : List ℕ) (o : All Byte s) (head : headerReply 1 1024 s ≡ 0) whe
   n = headerCount s
 
   module _ (off off′ : List ℕ) (r : Reading) (w : ReadRecords s S n off off′ r) where
-    offset-le : (p : Records Instr) (c : ℕ) → (readingOf (length s) c p) .offset ≤ length s
-    offset-le (Read xs) c = omega arith
-    offset-le (Stop q bs) c = omega arith
-
     pub offset-small : r .offset ≤ length s
-    offset-small = subst (λ q. q .offset ≤ length s) (sym (w .answer)) (offset-le (instrsFrom S n n (drop 6 s)) (instrCount S n n (drop 6 s)))
+    offset-small = subst (λ q. q .offset ≤ length s) (sym (w .answer)) (reading-offset (length s) (instrCount S n n (drop 6 s)) (instrsFrom S n n (drop 6 s)))
 
     pub record-refuses : (K : ℕ) (words : List ℕ) → (r .reply ≡ 0 → ⊥) → refusal (r .reply) (r .offset) ≡ runAnswer s K words
     unfolding runAnswer readTable
@@ -116,7 +86,7 @@ module _ (s : List ℕ) (o : All Byte s) (head : headerReply 1 1024 s ≡ 0) whe
           count = ap (λ r. r .count) q ∙ count-all {St = Unit {0}} (λ u. instr S n) (λ u a. u) s n 6 tt xs e;
           many = records-chain {St = Unit {0}} (λ u. instr S n) (λ u a. u) s (λ u a. Unit {0}) (λ u l m a q. tt) n 6 tt xs e .1;
         }
-        go (Stop k bs) e q = absurd (let z : r .reply ≡ k = ap (λ r. r .reply) q in omega (arith, stop-low S n n (drop 6 s) k bs e))
+        go (Stop k bs) e q = absurd (let z : r .reply ≡ k = ap (λ r. r .reply) q in omega (arith, stop-low {St = Unit {0}} (λ u. instr S n) (λ u a. u) (λ u. instr-low S n) n tt (drop 6 s) k bs e))
 
     module _ (a : Accepts) (K : ℕ) (words : List ℕ) where
       opened : runAnswer s K words ≡ cond (leb K 255) (cond (eqb (length words) S) (answerOf (run (a .instructions) K words)) (refusal 11 0)) (refusal 8 0)

@@ -8,6 +8,8 @@ use lib.ListN.{length, take, drop, getD, length-drop}
 use lib.Seq.{length-take-le, getD-take, getD-drop, drop-drop, take-nil}
 use borrow.Author.Tests.{eq-eqb, ne-eqb}
 use Rattle.expr.specs.declared.File.the-variants.{Table}
+use Rattle.expr.specs.Lists.{drop-take}
+use Rattle.expr.specs.NumberLaws.{number-take}
 use Rattle.expr.specs.Number.{numberAfter, numberOf}
 use Rattle.expr.specs.Token.{Token}
 use Rattle.expr.specs.Expr.{below, Whole, parse}
@@ -18,20 +20,6 @@ use Rattle.file.specs.FileLaws.{framed, record-good}
 use Rattle.table.specs.Table.{Instr, Assign, Test, IfThenGoto, instr}
 use Rattle.table.specs.TableLaws.{Says, says-assign, says-assume, says-assert, says-goto, says}
 use Rattle.table.specs.Shown.{kindOf, exprStart, exprOf}
-
--- ---- parts of parts
-
-drop-take : (k l : ℕ) (xs : List ℕ) → drop k (take l xs) ≡ take (l - k) (drop k xs)
-drop-take zero l xs = ap (λ n. take n xs) (let e : l ≡ l - 0 = omega arith in e)
-drop-take (suc k) zero xs = sym (ap (λ n. take n (drop (suc k) xs)) (let e : 0 - suc k ≡ 0 = omega arith in e))
-drop-take (suc k) (suc l) [] = sym (take-nil (suc l - suc k))
-drop-take (suc k) (suc l) (x ∷ xs) = drop-take k l xs ∙ ap (λ n. take n (drop k xs)) (let e : l - k ≡ suc l - suc k = omega arith in e)
-
-number-take : (a j l : ℕ) (xs : List ℕ) → j ≤ l → numberAfter a j (take l xs) ≡ numberAfter a j xs
-number-take a zero l xs h = refl
-number-take a (suc j) zero xs h = absurd (omega arith)
-number-take a (suc j) (suc l) [] h = refl
-number-take a (suc j) (suc l) (x ∷ xs) h = number-take (a * 256 + x) j l xs (omega arith)
 
 -- ---- the record at an offset
 

@@ -1,6 +1,5 @@
 pub mod Bodies
 pub mod Walk
-pub mod Copies
 pub mod Held
 pub mod Moves
 pub mod Running

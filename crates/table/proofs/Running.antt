@@ -12,7 +12,7 @@ use Rattle.expr.specs.Number.{Byte}
 use Rattle.expr.specs.Eval.{envOf}
 use Rattle.file.specs.Outcome.{verdict, placeOf}
 use Rattle.file.specs.File.{headerInputs, headerCount, Good, Read, recordOf, Input, Accepted, Refused}
-use Rattle.file.specs.Shown.{offsetsFrom}
+use Rattle.file.specs.Shown.{offsetsFrom, isAccepted, listed}
 use Rattle.file.specs.FileLaws.{IsFile, file-is}
 use Rattle.table.specs.declared.steps.Move.{Move}
 use Rattle.table.specs.declared.steps.Move.the-variants as M
@@ -21,7 +21,7 @@ use Rattle.table.specs.TableLaws.{InstrOk, IsTable, table-ok, instr-at, 
 use Rattle.table.specs.Run.{Next, Halt, Go, step, stepAt, Ran, onward, runFrom}
 use Rattle.table.specs.RunLaws.{left, Leads, fails, goes, step-leads, fuel-enough}
 use Rattle.table.specs.Answer.{answerOf}
-use Rattle.table.specs.Shown.{Moved, stepBody, isAccepted, listed}
+use Rattle.table.specs.Shown.{Moved, stepBody}
 
 -- what an accepted table has for the run
 pub record Loaded (s : List ℕ) (S : ℕ) (is : List Instr) : Type 0 where

@@ -7,43 +7,11 @@ use mathlib.Core.List.{List, []}
 use lib.ListN.{length, take, drop, set, length-drop}
 use lib.Seq.{sets, length-sets, length-take-le, drop-drop}
 use Rattle.file.specs.File.{Body, Good, Bad, frame, Records, Read, Stop, recordOf, before}
-use Rattle.file.specs.Shown.{replyOf, readCount, offsetsFrom}
-use Rattle.file.specs.FileLaws.{framed, record-framed, records-good, records-bad, count-good, count-bad, records-end, records-spare, offsets-length, Reached, reached-start, reached-next, reached-on, sets-snoc}
-use Rattle.table.specs.declared.read.Reading.{Reading}
+use Rattle.file.specs.Shown.{readCount, readingOf, offsetsFrom}
+use Rattle.file.specs.FileLaws.{reading-before, records-good, records-bad, count-good, count-bad, records-end, records-spare, offsets-length, Reached, reached-start, reached-next, reached-on, sets-snoc}
+use Rattle.file.specs.declared.Reading.{Reading}
 use Rattle.table.specs.Table.{Instr, instr, instrsFrom}
-use Rattle.table.specs.TableLaws.{Low}
-use Rattle.table.specs.Shown.{instrCount, readingOf, ReadRecords}
-
-reading-before : (total count : ℕ) (a : Instr) (p : Records Instr) → readingOf total count (before a p) ≡ readingOf total count p
-reading-before total count a (Read xs) = refl
-reading-before total count a (Stop r bs) = refl
-
--- a reply that is not 0 is a refusal's; one that is 0 is a thing's
-pub reply-bad : (x : Body Instr) (r : ℕ) → r ≡ replyOf x → (r ≡ 0 → ⊥) → x ≡ Bad r
-reply-bad (Good a) r e h = absurd (h e)
-reply-bad (Bad q) r e h = ap {B = Body Instr} Bad (sym e)
-
-pub reply-good : (x : Body Instr) (r : ℕ) → Low x → r ≡ replyOf x → r ≡ 0 → (a : Instr) × (x ≡ Good a)
-reply-good (Good a) r l e h = (a, refl)
-reply-good (Bad q) r l e h = absurd (let k : 5 ≤ q = l .0 in omega arith)
-
--- the record at an offset, as the code cuts it out
-module _ (s : List ℕ) (S n at len : ℕ) (e : len ≡ frame (drop at s)) (h : len ≡ 0 → ⊥) where
-  some-frame : frame (drop at s) ≡ 0 → ⊥
-  some-frame z = h (e ∙ z)
-
-  pub record-inside : at + (2 + len) ≤ length s
-  record-inside = let f = framed (drop at s) some-frame in omega (arith, f .inside, length-drop at s)
-
-  pub cut-long : 0 < length (take (at + (2 + len) - (at + 2)) (drop (at + 2) s))
-  cut-long =
-      let l = length-take-le (at + (2 + len) - (at + 2)) (drop (at + 2) s) (omega (arith, record-inside, length-drop (at + 2) s)) in
-      omega (arith, h)
-
-  pub record-cut : recordOf (instr S n) (drop at s) ≡ instr S n (take (at + (2 + len) - (at + 2)) (drop (at + 2) s))
-  record-cut =
-      record-framed (instr S n) (drop at s) some-frame
-      ∙ ap₂ (λ l r. instr S n (take l r)) (sym e ∙ (let z : len ≡ at + (2 + len) - (at + 2) = omega arith in z)) (drop-drop 2 at s)
+use Rattle.table.specs.Shown.{instrCount, ReadRecords}
 
 module _ (s : List ℕ) (S n : ℕ) (off₀ : List ℕ) where
   abbrev answer : Reading

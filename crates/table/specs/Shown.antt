@@ -10,8 +10,8 @@ use Rattle.expr.specs.Token.{Token}
 use Rattle.expr.specs.Eval.{Env, envOf, value}
 use Rattle.file.specs.Outcome.{Kind, Assume, Assert, Lost, verdict, placeOf}
 use Rattle.file.specs.File.{headerInputs, headerCount, Body, Good, Bad, Records, Read, Stop, Input, Accepted, Refused}
-use Rattle.file.specs.Shown.{readCount, offsetsFrom}
-use Rattle.table.specs.declared.read.Reading.{Reading}
+use Rattle.file.specs.Shown.{readCount, readingOf, offsetsFrom, isAccepted}
+use Rattle.file.specs.declared.Reading.{Reading}
 use Rattle.table.specs.declared.steps.Move.{Move}
 use Rattle.table.specs.declared.steps.Move.the-variants as M
 use Rattle.table.specs.Table.{Instr, Assign, Test, IfThenGoto, instr, instrsFrom, readTable}
@@ -22,11 +22,6 @@ use Rattle.table.specs.Run.{Next, Halt, Go, step}
 -- of c of n instructions, how many are read before the first refusal
 abbrev pub instrCount : (S n c : ℕ) → List ℕ → ℕ
 instrCount S n c bs = readCount {St = Unit {0}} (λ u. instr S n) (λ u a. u) c tt bs
-
--- in a table of `total` bytes, with `count` records read
-abbrev pub readingOf : (total count : ℕ) → Records Instr → Reading
-readingOf total count (Read xs) = record { reply = 0; offset = 0; count = count }
-readingOf total count (Stop r bs) = record { reply = r; offset = total - length bs; count = count }
 
 -- the reading of the records after a table's header, with the offsets stored
 pub record ReadRecords (table : List ℕ) (S n : ℕ) (before after : List ℕ) (r : Reading) : Type 0 where
@@ -66,14 +61,6 @@ valueIn (Bad r) ρ = 0
 abbrev pub stepBody : (n K i r : ℕ) → Body Instr → Env → Next
 stepBody n K i r (Good x) ρ = step n K i r x ρ
 stepBody n K i r (Bad reply) ρ = Halt Lost
-
-abbrev pub isAccepted : {A : Type 0} → Input A → Bool
-isAccepted (Accepted S xs) = true
-isAccepted (Refused r o) = false
-
-abbrev pub listed : {A : Type 0} → Input A → List A
-listed (Accepted S xs) = xs
-listed (Refused r o) = []
 
 -- a table that is ready to run: accepted, its records' offsets stored, and room for every symbol
 pub record Ready (table offsets : List ℕ) (n : ℕ) (vals : List ℕ) : Type 0 where

@@ -18,7 +18,7 @@ use Rattle.expr.specs.ExprLaws.{Ok, parse-accepted, parse-more}
 use Rattle.file.specs.Outcome.{Assume, Assert}
 use Rattle.file.specs.File.{headerCount, Body, Good, Bad, field, holding, frame, Read, recordOf, Accepted}
 use Rattle.file.specs.Shown.{offsetsFrom}
-use Rattle.file.specs.FileLaws.{framed, record-framed, record-good, next-record, Chain, records-chain, header-is, file-is, field-there, field-good, rule-good, holding-good}
+use Rattle.file.specs.FileLaws.{Low, holding-low, cond-low, framed, record-framed, record-good, next-record, Chain, records-chain, header-is, file-is, field-there, field-good, rule-good, holding-good}
 use Rattle.table.specs.Table.{Instr, Assign, Test, IfThenGoto, assign, test, ifThenGoto, instr, instrsFrom, instrs, readTable}
 
 -- ---- a record by its kind
@@ -52,19 +52,6 @@ module _ (S n : ℕ) (body : List ℕ) (h : 0 < length body) where
 
   pub kind-unknown : (getD body 0 0 ≡ 1 → ⊥) → (getD body 0 0 ≡ 2 → ⊥) → (getD body 0 0 ≡ 3 → ⊥) → (getD body 0 0 ≡ 4 → ⊥) → instr S n body ≡ Bad 5
   kind-unknown a b c d = opened body h ∙ rw (ne-eqb kind 1 a, ne-eqb kind 2 b, ne-eqb kind 3 c, ne-eqb kind 4 d)
-
--- a record that is refused has the reply 5, 6 or 7
-abbrev pub Low : Body Instr → Type 0
-Low (Good x) = Unit {0}
-Low (Bad r) = (5 ≤ r) × (r ≤ 7)
-
-holding-low : (f : List Token → Instr) (p : Parsed) → Low (holding f p)
-holding-low f (Whole e) = tt
-holding-low f (Breaks bs) = omega arith
-
-cond-low : (b : Bool) (x y : Body Instr) → Low x → Low y → Low (cond b x y)
-cond-low true x y h k = h
-cond-low false x y h k = k
 
 pub instr-low : (S n : ℕ) (bs : List ℕ) → Low (instr S n bs)
 unfolding instr

@@ -37,6 +37,7 @@ pub fn run(table: &[u8], bound: u64, words: &[u32]) -> Answer
     if words.len() != inputs {
         return steps::refused(11, 0);
     }
-    let mut vals = steps::values(words);
+    let mut vals: [u32; 64] = [0; 64];
+    file::copy_words(words, &mut vals);
     steps::run_from(table, &offsets, n, bound as usize, &mut vals)
 }

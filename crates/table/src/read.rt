@@ -3,6 +3,7 @@ use expr::File;
 use expr::accept;
 use expr::accept::Checked;
 use expr::number;
+use file::Reading;
 ghost use mathlib.Core.Path.{_≡_};
 ghost use Prim.Native.Nat.{_≤_, _<_};
 ghost use lib.ListN.{length, drop};
@@ -11,14 +12,6 @@ ghost use Rattle.expr.specs.Expr.{below, parse};
 ghost use Rattle.file.specs.Shown.{replyOf, exprReply};
 ghost use Rattle.table.specs.Table.{instr};
 ghost use Rattle.table.specs.Shown.{ReadRecords};
-
-// How far the records of a table were read: a reply with its offset, 0 if all are there and nothing after them; and the number of records
-// that were read before it.
-pub struct Reading {
-    pub reply: u8,
-    pub offset: usize,
-    pub count: usize,
-}
 
 // The expression from a place of a record on: 0, or 7.
 fn expr_reply(body: &[u8], from: usize, inputs: usize) -> u8

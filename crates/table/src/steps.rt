@@ -10,12 +10,12 @@ ghost use lib.ListN.{length, drop};
 ghost use Rattle.expr.specs.Eval.{Env, envOf};
 ghost use Rattle.file.specs.Outcome.{Failed};
 ghost use Rattle.file.specs.File.{recordOf};
-ghost use Rattle.file.specs.Shown.{isGood};
+ghost use Rattle.file.specs.Shown.{isGood, listed};
 ghost use Rattle.table.specs.Table.{instr, readTable};
 ghost use Rattle.table.specs.Run.{Halt, runFrom};
 ghost use Rattle.table.specs.Run as Run;
 ghost use Rattle.table.specs.Answer.{refusal, answerOf};
-ghost use Rattle.table.specs.Shown.{exprStart, valueIn, kindOf, moveOf, Moved, stepBody, listed, Ready};
+ghost use Rattle.table.specs.Shown.{exprStart, valueIn, kindOf, moveOf, Moved, stepBody, Ready};
 
 // After an instruction: go on at an instruction with so many back jumps taken, or end with a verdict and its place.
 enum Move {
@@ -149,18 +149,4 @@ pub fn run_from(table: &[u8], offsets: &[u16], n: usize, bound: usize, vals: &mu
         place: 0,
         back_jumps: r as u32,
     }
-}
-
-// The words of a valuation, in an array with room for every symbol of a table.
-pub fn values(words: &[u32]) -> [u32; 64]
-    requires { ⌜ length (now words) ≤ 64 ⌝ }
-    ensures { λ r. ⌜ (envOf r ≡ envOf (now (words .entry))) × (length r ≡ 64) ⌝ }
-{
-    let mut vals: [u32; 64] = [0; 64];
-    let mut s: usize = 0;
-    while s < words.len() {
-        vals[s] = words[s];
-        s += 1;
-    }
-    vals
 }

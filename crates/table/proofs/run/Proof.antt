@@ -1,19 +1,24 @@
-use Prim.Native.Nat.{ℕ, _+_, _*_}
-use Rattle.expr.specs.Eval.{envOf}
-use Rattle.table.specs.Table.{readTable}
-use Rattle.table.specs.Run.{runFrom}
-use Rattle.table.specs.Answer.{answerOf}
+-- The answer by the way that the code takes to it: each `return` cites the law of that way (`proofs/Answers.antt`).
+use Prim.Native.Nat.{ℕ, _+_, _*_, _≤_, _<_}
 use native.Mathlib.Omega.{arith}
 use mathlib.Core.Path.{_≡_, sym, ap, _∙_, subst}
 use mathlib.Core.List.{List}
-use lib.ListN.{replicate, length-replicate}
+use borrow.Author.Needs.{needs}
+use lib.ListN.{length, replicate, length-replicate}
+use lib.Seq.{length-sets}
 use Rattle.expr.specs.Lists.{All, all-at}
 use Rattle.expr.specs.Number.{Byte}
 use Rattle.expr.specs.NumberLaws.{byte-at}
+use Rattle.expr.specs.Eval.{envOf}
+use Rattle.file.specs.declared.Reading.{Reading}
 use Rattle.file.specs.File.{headerInputs, headerCount, headerReply}
-use Rattle.table.specs.Shown.{ReadRecords, listed, Ready}
+use Rattle.file.specs.Shown.{listed}
+use Rattle.file.specs.FileLaws.{copy-env}
+use Rattle.table.specs.Table.{readTable}
+use Rattle.table.specs.Run.{runFrom}
+use Rattle.table.specs.Answer.{refusal, answerOf, runAnswer}
+use Rattle.table.specs.Shown.{ReadRecords, Ready}
 use Rattle.table.proofs.Answers.{header-refuses, long, short, inputs-few, count-few, offset-small, record-refuses, Accepts, accepts, bound-refused, valuation-refused, ran, is-ready}
-use borrow.Author.Needs.{needs}
 use Rattle.table.proofs.run.Statement.{statement}
 use Rattle.table.proofs.run.Tie as tie
 
@@ -24,19 +29,68 @@ bytes c = all-at Byte (c .before .args .table .now) (λ i h. c .shared-slice-kno
 head : (c : tie.Else1) → headerReply 1 1024 (c .before .before .before .before .args .table .now) ≡ 0
 head c = sym (c .before .header-reply .ensures) ∙ c .if1 .left
 
+-- what is known once the records are read
 module _ (c : tie.After-read-records) where
-  abbrev table : List ℕ
-  table = c .before .before .before .before .before .before .before .before .args .table .now
+  abbrev s : List ℕ
+  s = c .before .before .before .before .before .before .before .before .args .table .now
+
+  abbrev K : ℕ
+  K = c .before .before .before .before .before .before .before .before .args .bound
+
+  abbrev words : List ℕ
+  words = c .before .before .before .before .before .before .before .before .args .words .now
+
+  abbrev off : List ℕ
+  off = c .read-records .last .1 .1 .1 .0
+
+  abbrev r : Reading
+  r = c .read-records .result
+
+  b : All Byte (c .before .before .before .before .before .before .before .before .args .table .now)
+  b = bytes (c .before .before .before .before .before .before .before)
+
+  h : headerReply 1 1024 (c .before .before .before .before .before .before .before .before .args .table .now) ≡ 0
+  h = head (c .before .before .before .before)
 
   inputs-are : c .before .before .before .byte-at .result ≡ headerInputs (c .before .before .before .before .before .before .before .before .args .table .now)
-  inputs-are = c .before .before .before .byte-at .ensures .0 ∙ byte-at (c .before .before .before .before .before .before .before .before .args .table .now) 3 (omega (arith, long (c .before .before .before .before .before .before .before .before .args .table .now) (bytes (c .before .before .before .before .before .before .before)) (head (c .before .before .before .before))))
+  inputs-are = c .before .before .before .byte-at .ensures .0 ∙ byte-at s 3 (omega (arith, long s b h))
 
-  reads : ReadRecords (c .before .before .before .before .before .before .before .before .args .table .now) (headerInputs (c .before .before .before .before .before .before .before .before .args .table .now)) (headerCount (c .before .before .before .before .before .before .before .before .args .table .now)) (replicate 1024 0) (c .read-records .last .1 .1 .1 .0) (c .read-records .result)
-  reads = subst (λ S. ReadRecords (c .before .before .before .before .before .before .before .before .args .table .now) S (headerCount (c .before .before .before .before .before .before .before .before .args .table .now)) (replicate 1024 0) (c .read-records .last .1 .1 .1 .0) (c .read-records .result)) inputs-are
-      (subst (λ n. ReadRecords (c .before .before .before .before .before .before .before .before .args .table .now) (c .before .before .before .byte-at .result) n (replicate 1024 0) (c .read-records .last .1 .1 .1 .0) (c .read-records .result)) (c .before .before .two-at .ensures .0) (c .read-records .ensures))
+  count-is : c .before .before .two-at .result ≡ headerCount (c .before .before .before .before .before .before .before .before .args .table .now)
+  count-is = c .before .before .two-at .ensures .0
 
-  accepted : c .read-records .result .reply ≡ 0 → Accepts (c .before .before .before .before .before .before .before .before .args .table .now) (bytes (c .before .before .before .before .before .before .before)) (head (c .before .before .before .before)) (replicate 1024 0) (c .read-records .last .1 .1 .1 .0) (c .read-records .result) reads
-  accepted h = accepts (c .before .before .before .before .before .before .before .before .args .table .now) (bytes (c .before .before .before .before .before .before .before)) (head (c .before .before .before .before)) (replicate 1024 0) (c .read-records .last .1 .1 .1 .0) (c .read-records .result) reads h
+  reads : ReadRecords s (headerInputs s) (headerCount s) (replicate 1024 0) off r
+  reads = subst (λ S. ReadRecords s S (headerCount s) (replicate 1024 0) off r) inputs-are
+      (subst (λ n. ReadRecords s (c .before .before .before .byte-at .result) n (replicate 1024 0) off r) count-is (c .read-records .ensures))
+
+  few-inputs : c .before .before .before .byte-at .result ≤ 64
+  few-inputs = omega (arith, inputs-are, inputs-few s b h)
+
+  small-offset : r .offset < 65536
+  small-offset = omega (arith, offset-small s b h (replicate 1024 0) off r reads, short s b h)
+
+  by-record : (r .reply ≡ 0 → ⊥) → refusal (r .reply) (r .offset) ≡ runAnswer s K words
+  by-record z = record-refuses s b h (replicate 1024 0) off r reads K words z
+
+  module _ (z : r .reply ≡ 0) where
+    a : Accepts s b h (replicate 1024 0) off r reads
+    a = accepts s b h (replicate 1024 0) off r reads z
+
+    by-bound : 255 < K → refusal 8 0 ≡ runAnswer s K words
+    by-bound l = bound-refused s b h (replicate 1024 0) off r reads a K words l
+
+    by-valuation : K ≤ 255 → (length words ≡ c .before .before .before .byte-at .result → ⊥) → refusal 11 0 ≡ runAnswer s K words
+    by-valuation l n = valuation-refused s b h (replicate 1024 0) off r reads a K words l (λ e. n (e ∙ sym inputs-are))
+
+    by-run : K ≤ 255 → length words ≡ c .before .before .before .byte-at .result → (vals : List ℕ) → envOf vals ≡ envOf words
+        → answerOf (runFrom (listed (readTable s)) K ((K + 1) * (c .before .before .two-at .result + 1)) 0 0 (envOf vals)) ≡ runAnswer s K words
+    by-run l e vals v =
+        ap (λ n. answerOf (runFrom (listed (readTable s)) K ((K + 1) * (n + 1)) 0 0 (envOf vals))) count-is
+        ∙ ran s b h (replicate 1024 0) off r reads a K words l (e ∙ inputs-are) vals v
+
+    ready : (vals : List ℕ) → length vals ≡ 64 → Ready s off (c .before .before .two-at .result) vals
+    ready vals e =
+        subst (λ n. Ready s off n vals) (sym count-is)
+        (is-ready s b h (replicate 1024 0) off r reads a vals (omega (arith, count-few s b h, length-replicate {A = ℕ} 1024 0)) (omega (arith, inputs-few s b h)))
 
 header-reply-requires : tie.Need-header-reply-requires
 header-reply-requires c κs = search needs
@@ -60,34 +114,41 @@ slice-aggregate-read-records : tie.Need-slice-aggregate-read-records
 slice-aggregate-read-records c = search needs
 
 read-records-requires : tie.Need-read-records-requires
-read-records-requires c κs = let s = c .before .before .before .before .before .before .before .args .table .now in let b = bytes (c .before .before .before .before .before .before) in let h = head (c .before .before .before) in (long s b h, short s b h, omega (arith, count-few s b h, c .before .two-at .ensures .0, length-replicate {A = ℕ} 1024 0))
+read-records-requires c κs =
+    let s = c .before .before .before .before .before .before .before .args .table .now in
+    let b = bytes (c .before .before .before .before .before .before) in
+    let h = head (c .before .before .before) in
+    (long s b h, short s b h, omega (arith, count-few s b h, c .before .two-at .ensures .0, length-replicate {A = ℕ} 1024 0))
 
 cast-refused-2 : tie.Need-cast-refused-2
 cast-refused-2 c = search needs
 
 cast-refused-3 : tie.Need-cast-refused-3
-cast-refused-3 c = omega (arith, offset-small (c .before .before .before .before .before .before .before .before .before .before .before .args .table .now) (bytes (c .before .before .before .before .before .before .before .before .before .before)) (head (c .before .before .before .before .before .before .before)) (replicate 1024 0) (c .before .before .before .read-records .last .1 .1 .1 .0) (c .before .before .before .read-records .result) (reads (c .before .before .before)), short (c .before .before .before .before .before .before .before .before .before .before .before .args .table .now) (bytes (c .before .before .before .before .before .before .before .before .before .before)) (head (c .before .before .before .before .before .before .before)))
+cast-refused-3 c = omega (arith, small-offset (c .before .before .before))
 
 refused-requires-2 : tie.Need-refused-requires-2
 refused-requires-2 c κs = search needs
 
 returns-2 : tie.Need-returns-2
-returns-2 c = c .refused2 .ensures ∙ record-refuses (c .before .before .before .before .before .before .before .before .before .before .before .before .args .table .now) (bytes (c .before .before .before .before .before .before .before .before .before .before .before)) (head (c .before .before .before .before .before .before .before .before)) (replicate 1024 0) (c .before .before .before .before .read-records .last .1 .1 .1 .0) (c .before .before .before .before .read-records .result) (reads (c .before .before .before .before)) _ _ (c .before .before .if2 .taken)
+returns-2 c = c .refused2 .ensures ∙ by-record (c .before .before .before .before) (c .before .before .if2 .taken)
 
 refused-requires-3 : tie.Need-refused-requires-3
 refused-requires-3 c κs = search needs
 
 returns-3 : tie.Need-returns-3
-returns-3 c = c .refused3 .ensures ∙ bound-refused (c .before .before .before .before .before .before .before .before .before .before .before .before .args .table .now) (bytes (c .before .before .before .before .before .before .before .before .before .before .before)) (head (c .before .before .before .before .before .before .before .before)) (replicate 1024 0) (c .before .before .before .before .read-records .last .1 .1 .1 .0) (c .before .before .before .before .read-records .result) (reads (c .before .before .before .before)) (accepted (c .before .before .before .before) (c .before .before .if2 .left)) _ _ (c .before .if3 .taken)
+returns-3 c = c .refused3 .ensures ∙ by-bound (c .before .before .before .before) (c .before .before .if2 .left) (c .before .if3 .taken)
 
 refused-requires-4 : tie.Need-refused-requires-4
 refused-requires-4 c κs = search needs
 
 returns-4 : tie.Need-returns-4
-returns-4 c = c .refused4 .ensures ∙ valuation-refused (c .before .before .before .before .before .before .before .before .before .before .before .before .before .args .table .now) (bytes (c .before .before .before .before .before .before .before .before .before .before .before .before)) (head (c .before .before .before .before .before .before .before .before .before)) (replicate 1024 0) (c .before .before .before .before .before .read-records .last .1 .1 .1 .0) (c .before .before .before .before .before .read-records .result) (reads (c .before .before .before .before .before)) (accepted (c .before .before .before .before .before) (c .before .before .before .if2 .left)) _ _ (c .before .before .if3 .left) (λ e. c .before .if4 .taken (e ∙ sym (inputs-are (c .before .before .before .before .before))))
+returns-4 c = c .refused4 .ensures ∙ by-valuation (c .before .before .before .before .before) (c .before .before .before .if2 .left) (c .before .before .if3 .left) (c .before .if4 .taken)
 
-values-requires : tie.Need-values-requires
-values-requires c κs = omega (arith, c .if4 .left, inputs-are (c .before .before .before .before), inputs-few (c .before .before .before .before .before .before .before .before .before .before .before .before .args .table .now) (bytes (c .before .before .before .before .before .before .before .before .before .before .before)) (head (c .before .before .before .before .before .before .before .before)))
+slice-aggregate-copy-words : tie.Need-slice-aggregate-copy-words
+slice-aggregate-copy-words c = search needs
+
+copy-words-requires : tie.Need-copy-words-requires
+copy-words-requires c κs = omega (arith, c .before .if4 .left, few-inputs (c .before .before .before .before .before), length-replicate {A = ℕ} 64 0)
 
 slice-aggregate-run-from : tie.Need-slice-aggregate-run-from
 slice-aggregate-run-from c = search needs
@@ -96,19 +157,13 @@ slice-aggregate-run-from-2 : tie.Need-slice-aggregate-run-from-2
 slice-aggregate-run-from-2 c = search needs
 
 run-from-requires : tie.Need-run-from-requires
-run-from-requires c κs = (
-  c .before .before .before .before .if3 .left,
-  subst (λ n. Ready (c .before .before .before .before .before .before .before .before .before .before .before .before .before .before .before .args .table .now) (c .before .before .before .before .before .before .before .read-records .last .1 .1 .1 .0) n (c .before .before .values .result)) (sym (c .before .before .before .before .before .before .before .before .before .two-at .ensures .0))
-      (is-ready (c .before .before .before .before .before .before .before .before .before .before .before .before .before .before .before .args .table .now) (bytes (c .before .before .before .before .before .before .before .before .before .before .before .before .before .before)) (head (c .before .before .before .before .before .before .before .before .before .before .before)) (replicate 1024 0) (c .before .before .before .before .before .before .before .read-records .last .1 .1 .1 .0) (c .before .before .before .before .before .before .before .read-records .result) (reads (c .before .before .before .before .before .before .before)) (accepted (c .before .before .before .before .before .before .before) (c .before .before .before .before .before .if2 .left)) (c .before .before .values .result)
-      (omega (arith, count-few (c .before .before .before .before .before .before .before .before .before .before .before .before .before .before .before .args .table .now) (bytes (c .before .before .before .before .before .before .before .before .before .before .before .before .before .before)) (head (c .before .before .before .before .before .before .before .before .before .before .before)), length-replicate {A = ℕ} 1024 0))
-      (omega (arith, c .before .before .values .ensures .1, inputs-few (c .before .before .before .before .before .before .before .before .before .before .before .before .before .before .before .args .table .now) (bytes (c .before .before .before .before .before .before .before .before .before .before .before .before .before .before)) (head (c .before .before .before .before .before .before .before .before .before .before .before))))),
-)
+run-from-requires c κs = (c .before .before .before .before .before .before .if3 .left, ready (c .before .before .before .before .before .before .before .before .before) (c .before .before .before .before .before .before .before .if2 .left) _ (ap length (c .before .before .before .copy-words .ensures) ∙ length-sets (replicate 64 0) 0 (c .before .before .before .before .before .before .before .before .before .before .before .before .before .before .before .before .before .args .words .now) ∙ length-replicate {A = ℕ} 64 0))
 
 returns-5 : tie.Need-returns-5
-returns-5 c = let s = c .before .before .before .before .before .before .before .before .before .before .before .before .before .before .before .before .before .args in
+returns-5 c =
     c .before .run-from .ensures
-    ∙ ap (λ n. answerOf (runFrom (listed (readTable (s .table .now))) (s .bound) ((s .bound + 1) * (n + 1)) 0 0 (envOf (c .before .before .before .before .values .result)))) (c .before .before .before .before .before .before .before .before .before .before .before .two-at .ensures .0)
-    ∙ ran (c .before .before .before .before .before .before .before .before .before .before .before .before .before .before .before .before .before .args .table .now) (bytes (c .before .before .before .before .before .before .before .before .before .before .before .before .before .before .before .before)) (head (c .before .before .before .before .before .before .before .before .before .before .before .before .before)) (replicate 1024 0) (c .before .before .before .before .before .before .before .before .before .read-records .last .1 .1 .1 .0) (c .before .before .before .before .before .before .before .before .before .read-records .result) (reads (c .before .before .before .before .before .before .before .before .before)) (accepted (c .before .before .before .before .before .before .before .before .before) (c .before .before .before .before .before .before .before .if2 .left)) (s .bound) (s .words .now) (c .before .before .before .before .before .before .if3 .left) (c .before .before .before .before .before .if4 .left ∙ inputs-are (c .before .before .before .before .before .before .before .before .before)) (c .before .before .before .before .values .result) (c .before .before .before .before .values .ensures .0)
+    ∙ by-run (c .before .before .before .before .before .before .before .before .before .before .before) (c .before .before .before .before .before .before .before .before .before .if2 .left) (c .before .before .before .before .before .before .before .before .if3 .left) (c .before .before .before .before .before .before .before .if4 .left) (c .before .before .before .before .before .copy-words .last .1 .0)
+    (ap envOf (c .before .before .before .before .before .copy-words .ensures) ∙ copy-env 64 (c .before .before .before .before .before .before .before .before .before .before .before .before .before .before .before .before .before .before .before .args .words .now) (omega (arith, c .before .before .before .before .before .before .before .if4 .left, few-inputs (c .before .before .before .before .before .before .before .before .before .before .before))))
 
 pub run-spec : {M : Type 1} → statement M
 run-spec =
@@ -130,7 +185,8 @@ run-spec =
     returns-3
     refused-requires-4
     returns-4
-    values-requires
+    slice-aggregate-copy-words
+    copy-words-requires
     slice-aggregate-run-from
     slice-aggregate-run-from-2
     run-from-requires

@@ -5,10 +5,10 @@ use mathlib.Core.Path.{_≡_, sym, _∙_, subst}
 use lib.ListN.{length, take, drop, set}
 use borrow.Author.Needs.{needs}
 use Rattle.file.specs.File.{recordOf}
-use Rattle.file.specs.FileLaws.{record-unframed}
+use Rattle.file.specs.FileLaws.{record-unframed, record-inside, cut-long, record-cut, reply-bad, reply-good}
 use Rattle.table.specs.Table.{instr}
 use Rattle.table.specs.TableLaws.{instr-low}
-use Rattle.table.proofs.Walk.{reply-bad, reply-good, record-inside, cut-long, record-cut, Walking, long, start, refuse, on, done, spare}
+use Rattle.table.proofs.Walk.{Walking, long, start, refuse, on, done, spare}
 use Rattle.table.proofs.read.read_records.Statement.{statement}
 use Rattle.table.proofs.read.read_records.Tie as tie
 
@@ -32,11 +32,11 @@ returns c = refuse _ _ _ _ (c .before .before .before .loop .inv) (c .before .be
 
 -- the record is there
 inside : (c : tie.Else1 Inv-loop μ-loop) → c .before .before .before .loop .at + (2 + c .before .frame-at .result) ≤ length (c .before .before .before .before .before .before .args .table .now)
-inside c = record-inside (c .before .before .before .before .before .before .args .table .now) (c .before .before .before .before .before .before .args .inputs) (c .before .before .before .before .before .before .args .n) (c .before .before .before .loop .at) (c .before .frame-at .result) (c .before .frame-at .ensures) (c .if1 .left)
+inside c = record-inside (instr (c .before .before .before .before .before .before .args .inputs) (c .before .before .before .before .before .before .args .n)) (c .before .before .before .before .before .before .args .table .now) (c .before .before .before .loop .at) (c .before .frame-at .result) (c .before .frame-at .ensures) (c .if1 .left)
 
 cut : (c : tie.Else1 Inv-loop μ-loop) → recordOf (instr (c .before .before .before .before .before .before .args .inputs) (c .before .before .before .before .before .before .args .n)) (drop (c .before .before .before .loop .at) (c .before .before .before .before .before .before .args .table .now))
     ≡ instr (c .before .before .before .before .before .before .args .inputs) (c .before .before .before .before .before .before .args .n) (take (c .before .before .before .loop .at + (2 + c .before .frame-at .result) - (c .before .before .before .loop .at + 2)) (drop (c .before .before .before .loop .at + 2) (c .before .before .before .before .before .before .args .table .now)))
-cut c = record-cut (c .before .before .before .before .before .before .args .table .now) (c .before .before .before .before .before .before .args .inputs) (c .before .before .before .before .before .before .args .n) (c .before .before .before .loop .at) (c .before .frame-at .result) (c .before .frame-at .ensures) (c .if1 .left)
+cut c = record-cut (instr (c .before .before .before .before .before .before .args .inputs) (c .before .before .before .before .before .before .args .n)) (c .before .before .before .before .before .before .args .table .now) (c .before .before .before .loop .at) (c .before .frame-at .result) (c .before .frame-at .ensures) (c .if1 .left)
 
 add-body-reply : tie.Need-add-body-reply Inv-loop μ-loop
 add-body-reply c = omega (arith, inside c)
@@ -57,7 +57,7 @@ part-body-reply-end : tie.Need-part-body-reply-end Inv-loop μ-loop
 part-body-reply-end c = omega (arith, inside c)
 
 body-reply-requires : tie.Need-body-reply-requires Inv-loop μ-loop
-body-reply-requires c κs = cut-long (c .before .before .before .before .before .before .before .args .table .now) (c .before .before .before .before .before .before .before .args .inputs) (c .before .before .before .before .before .before .before .args .n) (c .before .before .before .before .loop .at) _ (c .before .before .frame-at .ensures) (c .before .if1 .left)
+body-reply-requires c κs = cut-long (instr (c .before .before .before .before .before .before .before .args .inputs) (c .before .before .before .before .before .before .before .args .n)) (c .before .before .before .before .before .before .before .args .table .now) (c .before .before .before .before .loop .at) _ (c .before .before .frame-at .ensures) (c .before .if1 .left)
 
 same-length-2 : tie.Need-same-length-2 Inv-loop μ-loop
 same-length-2 c = long _ _ _ _ (c .before .before .before .before .before .before .loop .inv)

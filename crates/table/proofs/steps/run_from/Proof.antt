@@ -8,10 +8,10 @@ use lib.ListN.{length}
 use Rattle.expr.specs.Lists.{All, all-at}
 use Rattle.expr.specs.Number.{Byte}
 use Rattle.file.specs.File.{headerInputs}
-use Rattle.file.specs.Shown.{isGood}
+use Rattle.file.specs.Shown.{isGood, listed}
 use Rattle.table.specs.Table.{readTable}
 use Rattle.table.specs.RunLaws.{left}
-use Rattle.table.specs.Shown.{listed}
+use Rattle.table.specs.Shown.{}
 use Rattle.table.proofs.Running.{Loaded, loaded, Running, On, start, here, end, halts, goes-on}
 use Rattle.table.proofs.steps.run_from.Statement.{statement}
 use Rattle.table.proofs.steps.run_from.Tie as tie
