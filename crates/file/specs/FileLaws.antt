@@ -7,13 +7,16 @@ use mathlib.Core.Path.{_≡_, refl, sym, ap, ap₂, _∙_, subst, fun-ext}
 use mathlib.Core.Bool.{Bool, true, false, cond, _&&_}
 use mathlib.Core.List.{List, [], _∷_, _++_}
 use lib.ListN.{length, take, drop, getD, set, length-drop, replicate, length-replicate, getD-replicate, drop-of-length-le, List·getD-append, List·getD-eq-default}
-use lib.Seq.{length-take-le, take-suc, drop-drop, drop-cons, getD-drop, getD-append-add, append-snoc, sets, sets-eq}
+use lib.Seq.{length-take-le, take-all, take-suc, drop-drop, drop-cons, getD-drop, getD-append-add, append-snoc, sets, sets-eq}
 use lib.Dec.{leb, eqb}
 use borrow.Author.Tests.{eqb-true, eqb-false, eq-eqb, ne-eqb, leb-true, leb-false, le-leb, lt-leb}
 use Rattle.expr.specs.Lists.{and-both}
 use Rattle.expr.specs.Number.{numberOf}
 use Rattle.expr.specs.Token.{Token}
-use Rattle.expr.specs.Expr.{Parsed, Whole, Breaks}
+use Rattle.expr.specs.declared.File.{File}
+use Rattle.expr.specs.declared.accept.Checked.the-variants.{Fine, Broken}
+use Rattle.expr.specs.Shown.{checked}
+use Rattle.expr.specs.Expr.{Parsed, Whole, Breaks, parse}
 use Rattle.expr.specs.Eval.{envOf}
 use Rattle.file.specs.Shown.{replyOf, exprReply, oneMore, readCount, afterGood, readFold, readingOf, offsetsFrom}
 use Rattle.file.specs.File.{headerInputs, headerCount, headerReply, Body, Good, Bad, field, rule, holding, frame, Records, Read, Stop, Accepted, Refused, recordOf, before, onRecord, records, finish, readFile}
@@ -114,6 +117,28 @@ module _ {A : Type 0} where
   record-low : (one : List ℕ → Body A) → ((bs : List ℕ) → Low (one bs)) → (bs : List ℕ) → Low (recordOf one bs)
   unfolding recordOf
   record-low one low bs = cond-low (eqb (frame bs) 0) (Bad 5) (one (take (frame bs) (drop 2 bs))) (omega arith, omega arith) (low (take (frame bs) (drop 2 bs)))
+
+-- the reply to the expression from a place of a record on, by what the check of that part says
+module _ (F : File) (may : ℕ → Bool) (from : ℕ) (body : List ℕ) where
+  abbrev cut : Parsed
+  cut = parse F may (take (length body - from) (drop from body))
+
+  same-part : parse F may (take (length body - from) (drop from body)) ≡ parse F may (drop from body)
+  same-part = ap (parse F may) (take-all (length body - from) (drop from body) (omega (arith, length-drop from body)))
+
+  pub expr-fine : (n : ℕ) → checked n (parse F may (take (length body - from) (drop from body))) ≡ Fine → 0 ≡ exprReply (parse F may (drop from body))
+  expr-fine n h = go cut h ∙ ap exprReply same-part
+    where
+      go : (p : Parsed) → checked n p ≡ Fine → 0 ≡ exprReply p
+      go (Whole e) h = refl
+      go (Breaks bs) h = absurd (let z : _≡_ {A = ℕ} 0 1 = cc in omega arith)
+
+  pub expr-broken : (n i : ℕ) → checked n (parse F may (take (length body - from) (drop from body))) ≡ Broken i → 7 ≡ exprReply (parse F may (drop from body))
+  expr-broken n i h = go cut h ∙ ap exprReply same-part
+    where
+      go : (p : Parsed) → checked n p ≡ Broken i → 7 ≡ exprReply p
+      go (Whole e) h = absurd (let z : _≡_ {A = ℕ} 0 1 = cc in omega arith)
+      go (Breaks bs) h = refl
 
 -- the records' reply is not 0
 pub stop-low : {A St : Type 0} (one : St → List ℕ → Body A) (next : St → A → St) → ((σ : St) (bs : List ℕ) → Low (one σ bs))

@@ -19,29 +19,6 @@ use Rattle.file.specs.FileLaws.{field-there, field-missing, reply-holding}
 use Rattle.table.specs.Table.{Assign, Test, IfThenGoto, assign, ifThenGoto, instr}
 use Rattle.table.specs.TableLaws.{kind-assign, kind-assume, kind-assert, kind-goto, kind-unknown}
 
--- ---- the expression from a place of a record on
-
-module _ (S from : ℕ) (body : List ℕ) where
-  part : take (length body - from) (drop from body) ≡ drop from body
-  part = take-all (length body - from) (drop from body) (omega (arith, length-drop from body))
-
-  same : parse Table (readable S []) (take (length body - from) (drop from body)) ≡ parse Table (below S) (drop from body)
-  same = ap₂ (parse Table) (readable-inputs S) part
-
-  pub expr-fine : (n : ℕ) → checked n (parse Table (readable S []) (take (length body - from) (drop from body))) ≡ Fine → 0 ≡ exprReply (parse Table (below S) (drop from body))
-  expr-fine n h = go (parse Table (readable S []) (take (length body - from) (drop from body))) h ∙ ap exprReply same
-    where
-      go : (p : Parsed) → checked n p ≡ Fine → 0 ≡ exprReply p
-      go (Whole e) h = refl
-      go (Breaks bs) h = absurd (let z : _≡_ {A = ℕ} 0 1 = cc in omega arith)
-
-  pub expr-broken : (n i : ℕ) → checked n (parse Table (readable S []) (take (length body - from) (drop from body))) ≡ Broken i → 7 ≡ exprReply (parse Table (below S) (drop from body))
-  expr-broken n i h = go (parse Table (readable S []) (take (length body - from) (drop from body))) h ∙ ap exprReply same
-    where
-      go : (p : Parsed) → checked n p ≡ Broken i → 7 ≡ exprReply p
-      go (Whole e) h = absurd (let z : _≡_ {A = ℕ} 0 1 = cc in omega arith)
-      go (Breaks bs) h = refl
-
 -- ---- a record's reply
 
 module _ (S n : ℕ) (body : List ℕ) (h : 0 < length body) where

@@ -1,5 +1,11 @@
-use mathlib.Core.Path.{sym, _∙_}
-use Rattle.table.proofs.Bodies.{expr-fine, expr-broken}
+use mathlib.Core.Path.{sym, ap, _∙_}
+use mathlib.Core.List.{[]}
+use lib.ListN.{drop}
+use Rattle.expr.specs.declared.File.the-variants.{Table}
+use Rattle.expr.specs.Expr.{readable, parse}
+use Rattle.expr.specs.ExprLaws.{readable-inputs}
+use Rattle.file.specs.Shown.{exprReply}
+use Rattle.file.specs.FileLaws.{expr-fine, expr-broken}
 use borrow.Author.Needs.{needs}
 use Rattle.table.proofs.read.expr_reply.Statement.{statement}
 use Rattle.table.proofs.read.expr_reply.Tie as tie
@@ -26,10 +32,10 @@ enum-told-2 : tie.Need-enum-told-2
 enum-told-2 c = search needs
 
 returns : tie.Need-returns
-returns c = let s = c .before .before .before .before .before .before .args in expr-fine (s .inputs) (s .from) (s .body .now) _ (sym (c .before .before .check-expr .ensures) ∙ c .enum-told .given .1)
+returns c = let s = c .before .before .before .before .before .before .args in expr-fine Table (readable (s .inputs) []) (s .from) (s .body .now) _ (sym (c .before .before .check-expr .ensures) ∙ c .enum-told .given .1) ∙ ap (λ may. exprReply (parse Table may (drop (s .from) (s .body .now)))) (readable-inputs (s .inputs))
 
 returns-2 : tie.Need-returns-2
-returns-2 c = let s = c .before .before .before .before .before .before .args in expr-broken (s .inputs) (s .from) (s .body .now) _ _ (sym (c .before .before .check-expr .ensures) ∙ c .enum-told2 .given .1)
+returns-2 c = let s = c .before .before .before .before .before .before .args in expr-broken Table (readable (s .inputs) []) (s .from) (s .body .now) _ _ (sym (c .before .before .check-expr .ensures) ∙ c .enum-told2 .given .1) ∙ ap (λ may. exprReply (parse Table may (drop (s .from) (s .body .now)))) (readable-inputs (s .inputs))
 
 pub expr-reply-spec : {M : Type 1} → statement M
 expr-reply-spec =
