@@ -1,4 +1,6 @@
 pub mod File
 pub mod FileLaws
+pub mod RecordLaws
+pub mod WalkLaws
 pub mod Outcome
 pub mod Shown

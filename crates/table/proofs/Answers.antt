@@ -1,12 +1,12 @@
 -- The answer to running, by the way that the code takes to it: the header refuses, a record refuses, the bound or the valuation is refused, the
 -- table runs.
-use Prim.Native.Nat.{ℕ, zero, suc, _+_, _*_, _≤_, _<_}
+use Prim.Native.Nat.{ℕ, suc, _+_, _*_, _≤_, _<_}
 use native.Mathlib.Omega.{arith}
 use native.Mathlib.Numerals.{add-one}
 use mathlib.Core.Path.{_≡_, refl, sym, ap, ap₂, _∙_, subst}
-use mathlib.Core.Bool.{Bool, true, false, cond}
-use mathlib.Core.List.{List, [], _∷_}
-use lib.ListN.{length, take, drop, getD}
+use mathlib.Core.Bool.{cond}
+use mathlib.Core.List.{List}
+use lib.ListN.{length, drop, getD}
 use lib.Seq.{sets, length-sets}
 use lib.Dec.{leb, eqb}
 use borrow.Author.Tests.{le-leb, lt-leb, eq-eqb, ne-eqb}
@@ -14,7 +14,7 @@ use Rattle.expr.specs.Lists.{All, all-drop}
 use Rattle.expr.specs.Number.{Byte}
 use Rattle.expr.specs.NumberLaws.{number-lt}
 use Rattle.expr.specs.Eval.{envOf}
-use Rattle.file.specs.File.{headerInputs, headerCount, headerReply, Body, Good, Bad, frame, Records, Read, Stop, recordOf, before, onRecord, records, Accepted, finish}
+use Rattle.file.specs.File.{headerInputs, headerCount, headerReply, Records, Read, Stop, Accepted, finish}
 use Rattle.file.specs.Shown.{isAccepted, listed, offsetsFrom, readingOf}
 use Rattle.file.specs.FileLaws.{stop-low, reading-offset, records-chain, count-all, Header, header-is, file-refused, file-read, offsets-length, sets-at}
 use Rattle.file.specs.declared.Reading.{Reading}

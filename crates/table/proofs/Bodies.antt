@@ -1,17 +1,14 @@
 -- What a record's bytes come to, by the code's tests.
 use Prim.Native.Nat.{ℕ, _-_, _≤_, _<_}
 use native.Mathlib.Omega.{arith}
-use mathlib.Core.Path.{_≡_, refl, ap, ap₂, _∙_}
-use mathlib.Core.List.{List, []}
-use lib.ListN.{length, take, drop, getD, length-drop}
-use lib.Seq.{take-all, drop-drop}
+use mathlib.Core.Path.{_≡_, ap, _∙_}
+use mathlib.Core.List.{List}
+use lib.ListN.{length, drop, getD, length-drop}
+use lib.Seq.{drop-drop}
 use borrow.Author.Tests.{lt-ltb, le-ltb, le-leb, lt-leb}
 use Rattle.expr.specs.declared.File.the-variants.{Table}
-use Rattle.expr.specs.declared.accept.Checked.the-variants.{Fine, Broken}
 use Rattle.expr.specs.Number.{numberOf}
-use Rattle.expr.specs.Expr.{below, readable, Parsed, Whole, Breaks, parse}
-use Rattle.expr.specs.ExprLaws.{readable-inputs}
-use Rattle.expr.specs.Shown.{checked}
+use Rattle.expr.specs.Expr.{below, parse}
 use Rattle.file.specs.Outcome.{Assume, Assert}
 use Rattle.file.specs.File.{rule, holding}
 use Rattle.file.specs.Shown.{replyOf, exprReply}

@@ -1,15 +1,15 @@
 -- What the code's values mean: its answers as functions of the definitions.
-use Prim.Native.Nat.{ℕ, _-_, _≤_, _<_}
+use Prim.Native.Nat.{ℕ, _≤_, _<_}
 use mathlib.Core.Path.{_≡_}
-use mathlib.Core.Bool.{Bool, true, false, cond}
-use mathlib.Core.List.{List, []}
+use mathlib.Core.Bool.{true, cond}
+use mathlib.Core.List.{List}
 use lib.ListN.{length, drop, getD}
 use lib.Seq.{sets}
 use lib.Dec.{eqb}
 use Rattle.expr.specs.Token.{Token}
 use Rattle.expr.specs.Eval.{Env, envOf, value}
 use Rattle.file.specs.Outcome.{Kind, Assume, Assert, Lost, verdict, placeOf}
-use Rattle.file.specs.File.{headerInputs, headerCount, Body, Good, Bad, Records, Read, Stop, Input, Accepted, Refused}
+use Rattle.file.specs.File.{headerInputs, headerCount, Body, Good, Bad}
 use Rattle.file.specs.Shown.{readCount, readingOf, offsetsFrom, isAccepted}
 use Rattle.file.specs.declared.Reading.{Reading}
 use Rattle.table.specs.declared.steps.Move.{Move}

@@ -12,11 +12,11 @@ use Rattle.expr.specs.declared.File.the-variants.{Table}
 use Rattle.expr.specs.Lists.{All, all-take, all-drop}
 use Rattle.expr.specs.Number.{Byte, numberOf}
 use Rattle.expr.specs.Token.{Token}
-use Rattle.expr.specs.Expr.{below, Parsed, Whole, Breaks, parse}
+use Rattle.expr.specs.Expr.{below, Whole, parse}
 use Rattle.expr.specs.TokenLaws.{Holds}
 use Rattle.expr.specs.ExprLaws.{Ok, parse-accepted, parse-more}
 use Rattle.file.specs.Outcome.{Assume, Assert}
-use Rattle.file.specs.File.{headerCount, Body, Good, Bad, field, holding, frame, Read, recordOf, Accepted}
+use Rattle.file.specs.File.{headerCount, Body, Good, Bad, field, frame, Read, recordOf, Accepted}
 use Rattle.file.specs.Shown.{offsetsFrom}
 use Rattle.file.specs.FileLaws.{Low, holding-low, cond-low, framed, record-framed, record-good, next-record, Chain, records-chain, header-is, file-is, field-there, field-good, rule-good, holding-good}
 use Rattle.table.specs.Table.{Instr, Assign, Test, IfThenGoto, assign, test, ifThenGoto, instr, instrsFrom, instrs, readTable}

@@ -1,8 +1,8 @@
 -- The invariant is `Walking`: see there. Each turn reads one record.
 use Prim.Native.Nat.{_+_, _-_, _≤_}
 use native.Mathlib.Omega.{arith}
-use mathlib.Core.Path.{_≡_, sym, _∙_, subst}
-use lib.ListN.{length, take, drop, set}
+use mathlib.Core.Path.{_≡_, sym, _∙_}
+use lib.ListN.{length, take, drop}
 use borrow.Author.Needs.{needs}
 use Rattle.file.specs.File.{recordOf}
 use Rattle.file.specs.FileLaws.{record-unframed, record-inside, cut-long, record-cut, reply-bad, reply-good}
@@ -87,11 +87,9 @@ loop-less : tie.Need-loop-less Inv-loop μ-loop
 loop-less c = omega arith
 
 loop-again : tie.Need-loop-again Inv-loop μ-loop
-loop-again c = let g = reply-good _ _ (instr-low _ _ _) (c .before .body-reply .ensures) (c .if2 .left) in
-    let a = c .before .before .before .before .before .before .before .before .before .args in
-    let v = c .before .before .before .before .before .before .loop in
-    subst (λ l. Walking (a .table .now) (a .inputs) (a .n) (a .offsets .now) (set (v .offsets) (v .k) (v .at)) (v .at + (2 + l)) (v .k + 1)) (sym (c .before .before .before .before .frame-at .ensures))
-    (on _ _ _ _ (c .before .before .before .before .before .before .loop .inv) (c .before .before .before .before .before .loop-test .taken) (g .0) (cut (c .before .before .before) ∙ g .1) (subst (λ l. c .before .before .before .before .before .before .loop .at + (2 + l) ≤ length (c .before .before .before .before .before .before .before .before .before .args .table .now)) (c .before .before .before .before .frame-at .ensures) (inside (c .before .before .before))))
+loop-again c =
+    let g = reply-good _ _ (instr-low _ _ _) (c .before .body-reply .ensures) (c .if2 .left) in
+    on _ _ _ _ (c .before .before .before .before .before .before .loop .inv) (c .before .before .before .before .before .loop-test .taken) (g .0) (cut (c .before .before .before) ∙ g .1) (c .before .before .before .before .frame-at .result) (c .before .before .before .before .frame-at .ensures) (inside (c .before .before .before))
 
 same-length-3 : tie.Need-same-length-3 Inv-loop μ-loop
 same-length-3 c = long _ _ _ _ (c .before .before .loop .inv)
