@@ -2,5 +2,6 @@ pub mod File
 pub mod FileLaws
 pub mod RecordLaws
 pub mod WalkLaws
+pub mod ReadingLaws
 pub mod Outcome
 pub mod Shown

@@ -1,8 +1,9 @@
 -- Document 01, "What is built": the C job hands a valuation as 4×S big-endian bytes; any other length is refusal 11.
-use Prim.Native.Nat.{ℕ, zero, suc, _*_}
+use Prim.Native.Nat.{ℕ, zero, suc, _*_, _≤_, _<_}
+use mathlib.Core.Path.{_≡_}
 use mathlib.Core.Bool.{cond}
 use mathlib.Core.List.{List, [], _∷_}
-use lib.ListN.{length, drop}
+use lib.ListN.{length, take, drop}
 use lib.Dec.{eqb, leb}
 use Rattle.expr.specs.Number.{numberOf}
 use Rattle.file.specs.File.{Input, Accepted, Refused}
@@ -15,6 +16,13 @@ use Rattle.table.specs.Answer.{refusal, answerOf}
 abbrev pub wordsOf : (c : ℕ) → List ℕ → List ℕ
 wordsOf zero bs = []
 wordsOf (suc c) bs = numberOf 4 bs ∷ wordsOf c (drop 4 bs)
+
+-- the words that stand before the first `count` of an array: all of a valuation, or 65 for one that is of no file
+pub record Decoded (valuation words : List ℕ) (count : ℕ) : Type 0 where
+  pub room : length words ≡ 65
+  pub most : count ≤ 65
+  pub whole : count ≤ 64 → (length valuation ≡ 4 * count) × (take count words ≡ wordsOf count valuation)
+  pub none : 64 < count → (c : ℕ) → c ≤ 64 → length valuation ≡ 4 * c → ⊥
 
 abbrev pub answeredBytes : (K : ℕ) (valuation : List ℕ) → Input Instr → Answer
 answeredBytes K valuation (Refused reply offset) = refusal reply offset

@@ -1,12 +1,13 @@
 -- A valuation of bytes is the valuation of its words.
 use Prim.Native.Nat.{ℕ, zero, suc, _+_, _*_, _≤_}
 use native.Mathlib.Omega.{arith}
+use native.Mathlib.Decide.{decLt}
 use native.Mathlib.Numerals.{add-one}
 use mathlib.Core.Path.{_≡_, refl, sym, ap, ap₂, _∙_}
 use mathlib.Core.Bool.{Bool, true, false, cond}
 use mathlib.Core.List.{List, [], _∷_, _++_}
 use lib.ListN.{length, take, drop, set}
-use lib.Seq.{drop-drop, sets, sets-eq, take-at}
+use lib.Seq.{length-take-le, length-sets, drop-drop, sets, sets-eq, take-at}
 use lib.Dec.{eqb, leb}
 use borrow.Author.Tests.{eqb-true, eqb-false, eq-eqb, ne-eqb}
 use Rattle.expr.specs.Number.{numberOf}
@@ -15,7 +16,7 @@ use Rattle.file.specs.FileLaws.{header-is, file-is, sets-snoc}
 use Rattle.table.specs.Table.{Instr, instrs, readTable}
 use Rattle.table.specs.Run.{run}
 use Rattle.table.specs.Answer.{refusal, answerOf, answered, runAnswer}
-use Rattle.kadvitul.specs.Interface.{wordsOf, answeredBytes, runBytes}
+use Rattle.kadvitul.specs.Interface.{wordsOf, Decoded, answeredBytes, runBytes}
 
 pub words-length : (c : ℕ) (bs : List ℕ) → length (wordsOf c bs) ≡ c
 words-length zero bs = refl
@@ -30,52 +31,44 @@ words-next c bs = ap (λ n. wordsOf n bs) (add-one c) ∙ go c bs
         ap {B = List ℕ} (λ r. numberOf 4 bs ∷ r) (go c (drop 4 bs))
         ∙ ap {B = List ℕ} (λ r. numberOf 4 bs ∷ wordsOf c (drop 4 bs) ++ numberOf 4 r ∷ []) (drop-drop (4 * c) 4 bs ∙ ap (λ n. drop n bs) (let e : 4 + 4 * c ≡ 4 * suc c = omega arith in e))
 
--- a table has at most 64 inputs
-inputs-few : (s : List ℕ) (S : ℕ) (is : List Instr) → readTable s ≡ Accepted S is → S ≤ 64
-unfolding readTable
-inputs-few s S is e = let f = file-is 1 1024 instrs s S is e in omega (arith, header-is 1 1024 s (f .header) .inputs, f .inputs)
+-- what is answered for S words is answered for 4 × S bytes
+module _ {valuation words : List ℕ} {count : ℕ} (d : Decoded valuation words count) where
+  same-words : {R : Type 0} (S : ℕ) → S ≤ 64 → (answer : List ℕ → R) (refused : R)
+      → cond (eqb (length (take count words)) S) (answer (take count words)) refused ≡ cond (eqb (length valuation) (4 * S)) (answer (wordsOf S valuation)) refused
+  same-words {R = R} S few answer refused = go (eqb count S) refl
+    where
+      long : length (take count words) ≡ count
+      long = length-take-le count words (omega (arith, d .room, d .most))
 
-same-answer : (s : List ℕ) (K : ℕ) (words valuation : List ℕ)
-    → ((S : ℕ) → S ≤ 64 → (is : List Instr) → answered K words (Accepted S is) ≡ answeredBytes K valuation (Accepted S is))
-    → runAnswer s K words ≡ runBytes s K valuation
-unfolding runAnswer runBytes
-same-answer s K words valuation h = go (readTable s) refl
-  where
-    go : (x : Input Instr) → readTable s ≡ x → answered K words x ≡ answeredBytes K valuation x
-    go (Refused r o) e = refl
-    go (Accepted S is) e = h S (inputs-few s S is e) is
+      other : (count ≡ S → ⊥) → length valuation ≡ 4 * S → ⊥
+      other n e = elim (decLt 64 count) [ yes h ↦ d .none h S few e | no h ↦ n (omega (arith, d .whole (omega arith) .0)) ]
 
--- c words are 4 × c bytes
-pub whole-words : (s : List ℕ) (K : ℕ) (valuation : List ℕ) (c : ℕ) → length valuation ≡ 4 * c → runAnswer s K (wordsOf c valuation) ≡ runBytes s K valuation
-whole-words s K valuation c h = same-answer s K (wordsOf c valuation) valuation (λ S l is. go S is (eqb c S) refl)
-  where
-    go : (S : ℕ) (is : List Instr) (b : Bool) → eqb c S ≡ b → answered K (wordsOf c valuation) (Accepted S is) ≡ answeredBytes K valuation (Accepted S is)
-    go S is true e =
-        let q = eqb-true c S e in
-        ap₂ (λ a b. cond (leb K 255) a b)
-        (ap (λ b. cond b (answerOf (run is K (wordsOf c valuation))) (refusal 11 0)) (eq-eqb (length (wordsOf c valuation)) S (words-length c valuation ∙ q))
-        ∙ ap (λ c. answerOf (run is K (wordsOf c valuation))) q
-        ∙ sym (ap (λ b. cond b (answerOf (run is K (wordsOf S valuation))) (refusal 11 0)) (eq-eqb (length valuation) (4 * S) (h ∙ ap (λ n. 4 * n) q))))
-        refl
-    go S is false e =
-        let q = eqb-false c S e in
-        ap₂ (λ a b. cond (leb K 255) a b)
-        (ap (λ b. cond b (answerOf (run is K (wordsOf c valuation))) (refusal 11 0)) (ne-eqb (length (wordsOf c valuation)) S (λ z. q (sym (words-length c valuation) ∙ z)))
-        ∙ sym (ap (λ b. cond b (answerOf (run is K (wordsOf S valuation))) (refusal 11 0)) (ne-eqb (length valuation) (4 * S) (λ z. q (omega arith)))))
-        refl
+      go : (b : Bool) → eqb count S ≡ b
+          → cond (eqb (length (take count words)) S) (answer (take count words)) refused ≡ cond (eqb (length valuation) (4 * S)) (answer (wordsOf S valuation)) refused
+      go true e =
+          let q = eqb-true count S e in
+          let w = d .whole (omega arith) in
+          ap (λ b. cond b (answer (take count words)) refused) (eq-eqb (length (take count words)) S (long ∙ q))
+          ∙ ap answer (w .1 ∙ ap (λ c. wordsOf c valuation) q)
+          ∙ sym (ap (λ b. cond b (answer (wordsOf S valuation)) refused) (eq-eqb (length valuation) (4 * S) (w .0 ∙ ap (λ c. 4 * c) q)))
+      go false e =
+          let q = eqb-false count S e in
+          ap (λ b. cond b (answer (take count words)) refused) (ne-eqb (length (take count words)) S (λ z. q (sym long ∙ z)))
+          ∙ sym (ap (λ b. cond b (answer (wordsOf S valuation)) refused) (ne-eqb (length valuation) (4 * S) (λ z. other q z)))
 
--- any other length, and more than 64 words, are no table's
-pub no-words : (s : List ℕ) (K : ℕ) (words valuation : List ℕ) → length words ≡ 65 → ((c : ℕ) → c ≤ 64 → length valuation ≡ 4 * c → ⊥)
-    → runAnswer s K words ≡ runBytes s K valuation
-no-words s K words valuation h n =
-    same-answer s K words valuation (λ S l is.
-    ap₂ (λ a b. cond (leb K 255) a b)
-    (ap (λ b. cond b (answerOf (run is K words)) (refusal 11 0)) (ne-eqb (length words) S (λ z. omega arith))
-    ∙ sym (ap (λ b. cond b (answerOf (run is K (wordsOf S valuation))) (refusal 11 0)) (ne-eqb (length valuation) (4 * S) (n S l))))
-    refl)
+  pub run-words : (s : List ℕ) (K : ℕ) → runAnswer s K (take count words) ≡ runBytes s K valuation
+  unfolding runAnswer runBytes readTable
+  run-words s K = go (readTable s) refl
+    where
+      go : (x : Input Instr) → readTable s ≡ x → answered K (take count words) x ≡ answeredBytes K valuation x
+      go (Refused r o) e = refl
+      go (Accepted S is) e =
+          let f = file-is 1 1024 instrs s S is e in
+          ap (λ a. cond (leb K 255) a (refusal 8 0))
+          (same-words S (omega (arith, header-is 1 1024 s (f .header) .inputs, f .inputs)) (λ ws. answerOf (run is K ws)) (refusal 11 0))
 
 -- the words stored at the front of an array
-pub words-front : (xs : List ℕ) (c : ℕ) (bs : List ℕ) → c ≤ length xs → take c (sets xs 0 (wordsOf c bs)) ≡ wordsOf c bs
+words-front : (xs : List ℕ) (c : ℕ) (bs : List ℕ) → c ≤ length xs → take c (sets xs 0 (wordsOf c bs)) ≡ wordsOf c bs
 words-front xs c bs h =
     ap (take c) (sets-eq (wordsOf c bs) xs 0 (omega (arith, words-length c bs)))
     ∙ take-at (wordsOf c bs) (drop (0 + length (wordsOf c bs)) xs) c (words-length c bs)
@@ -86,3 +79,16 @@ words-store xs c bs w h =
     ap₂ (λ k v. set (sets xs 0 (wordsOf c bs)) k v) (let e : c ≡ 0 + length (wordsOf c bs) = omega (arith, words-length c bs) in e) h
     ∙ sym (sets-snoc xs 0 (wordsOf c bs) (numberOf 4 (drop (4 * c) bs)))
     ∙ sym (ap (sets xs 0) (words-next c bs))
+
+-- what the code stores
+pub no-words : {valuation words : List ℕ} → length words ≡ 65 → ((c : ℕ) → c ≤ 64 → length valuation ≡ 4 * c → ⊥) → Decoded valuation words 65
+no-words h n = record { room = h; most = omega arith; whole = λ l. absurd (omega arith); none = λ l. n }
+
+pub all-words : {valuation words : List ℕ} (xs : List ℕ) → length xs ≡ 65 → (c : ℕ) → words ≡ sets xs 0 (wordsOf c valuation) → c ≤ 64 → length valuation ≡ 4 * c
+    → Decoded valuation words c
+all-words {valuation} xs h c e l v = record {
+  room = ap length e ∙ length-sets xs 0 (wordsOf c valuation) ∙ h;
+  most = omega arith;
+  whole = λ z. (v, ap (take c) e ∙ words-front xs c valuation (omega arith));
+  none = λ z. absurd (omega arith);
+}

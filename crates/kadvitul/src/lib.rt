@@ -5,7 +5,7 @@ ghost use mathlib.Core.Path.{_≡_};
 ghost use Prim.Native.Nat.{_/_, _*_, _≤_};
 ghost use lib.ListN.{length};
 ghost use lib.Seq.{sets};
-ghost use Rattle.kadvitul.specs.Interface.{wordsOf, runBytes};
+ghost use Rattle.kadvitul.specs.Interface.{wordsOf, Decoded, runBytes};
 
 // Stores `count` words of a valuation.
 fn decode(valuation: &[u8], count: usize, words: &mut [u32])
@@ -19,20 +19,29 @@ fn decode(valuation: &[u8], count: usize, words: &mut [u32])
     }
 }
 
-// Runs a rule's table. A valuation of no whole number of words, or of more than 64, becomes 65 words, which no table has.
+// The words of a valuation, and how many there are. Bytes that are no whole number of words, or of more than 64, count as 65 words, which no
+// file has.
+fn words_in(valuation: &[u8], words: &mut [u32]) -> usize
+    requires { ⌜ length (now words) ≡ 65 ⌝ }
+    ensures { λ r. ⌜ Decoded (now (valuation .entry)) (now (words .exit)) r ⌝ }
+{
+    let len = valuation.len();
+    let count = len / 4;
+    if len != 4 * count {
+        return 65;
+    }
+    if 64 < count {
+        return 65;
+    }
+    decode(valuation, count, words);
+    count
+}
+
 fn run_bytes(rule: &[u8], bound: u64, valuation: &[u8]) -> Answer
     ensures { λ r. ⌜ r ≡ runBytes (now (rule .entry)) bound (now (valuation .entry)) ⌝ }
 {
     let mut words: [u32; 65] = [0; 65];
-    let len = valuation.len();
-    let count = len / 4;
-    if len != 4 * count {
-        return table::run(rule, bound, &words);
-    }
-    if 64 < count {
-        return table::run(rule, bound, &words);
-    }
-    decode(valuation, count, &mut words);
+    let count = words_in(valuation, &mut words);
     table::run(rule, bound, &words[..count])
 }
 

@@ -1,0 +1,79 @@
+-- What a record's bytes come to, by the code's tests.
+use Prim.Native.Nat.{ℕ, _-_, _≤_, _<_}
+use native.Mathlib.Omega.{arith}
+use native.Mathlib.Decide.{decLt}
+use mathlib.Core.Path.{_≡_, refl, ap, ap₂, _∙_}
+use mathlib.Core.Bool.{Bool, true, false, _&&_}
+use mathlib.Core.List.{List}
+use lib.ListN.{length, drop, getD, length-drop}
+use lib.Seq.{drop-drop}
+use lib.Dec.{leb, ltb}
+use borrow.Author.Tests.{lt-ltb, le-ltb, le-leb, lt-leb}
+use Rattle.expr.specs.declared.File.the-variants.{Trace}
+use Rattle.expr.specs.Number.{numberOf}
+use Rattle.expr.specs.Expr.{parse}
+use Rattle.file.specs.Outcome.{Kind}
+use Rattle.file.specs.File.{field, rule, holding}
+use Rattle.file.specs.Shown.{replyOf, exprReply}
+use Rattle.file.specs.FileLaws.{field-there, field-missing, reply-holding}
+use Rattle.trace.specs.Trace.{Assign, Test, Seen, assign, assignAt, testAt, stmt}
+use Rattle.trace.specs.TraceLaws.{kind-assign, kind-unknown}
+
+module _ (top : ℕ) (σ : Seen) (body : List ℕ) (h : 0 < length body) where
+  abbrev rest : List ℕ
+  rest = drop 1 body
+
+  abbrev place : ℕ
+  place = numberOf 2 (drop 1 body)
+
+  abbrev symbol : ℕ
+  symbol = numberOf 2 (drop 3 body)
+
+  left : length (drop 1 body) ≡ length body - 1
+  left = length-drop 1 body
+
+  placed : 3 ≤ length body → getD body 0 0 ≡ 1 → stmt top σ body ≡ assignAt top σ place (drop 3 body)
+  placed l e = kind-assign top σ body h e ∙ field-there 2 rest (assignAt top σ) (omega (arith, left)) ∙ ap (assignAt top σ place) (drop-drop 2 1 body)
+
+  pub assign-short : getD body 0 0 ≡ 1 → length body < 5 → replyOf (stmt top σ body) ≡ 5
+  assign-short e l = elim (decLt (length body) 3) [ yes k ↦ first k | no k ↦ second (omega arith) ]
+    where
+      first : length body < 3 → replyOf (stmt top σ body) ≡ 5
+      first k = ap replyOf (kind-assign top σ body h e ∙ field-missing 2 rest (assignAt top σ) (omega (arith, left)))
+
+      second : 3 ≤ length body → replyOf (stmt top σ body) ≡ 5
+      second k = ap replyOf (placed k e ∙ field-missing 2 (drop 3 body) (assign top σ place) (omega (arith, length-drop 3 body)))
+
+  named : 5 ≤ length body → getD body 0 0 ≡ 1 → stmt top σ body ≡ assign top σ place symbol (drop 5 body)
+  named l e =
+      placed (omega arith) e
+      ∙ field-there 2 (drop 3 body) (assign top σ place) (omega (arith, length-drop 3 body))
+      ∙ ap (assign top σ place symbol) (drop-drop 2 3 body)
+
+  ruled : (a b : Bool) → leb (σ .least) symbol ≡ a → ltb symbol top ≡ b → 5 ≤ length body → getD body 0 0 ≡ 1
+      → stmt top σ body ≡ rule (a && b) (holding (Assign place symbol) (parse Trace (σ .readable) (drop 5 body)))
+  ruled a b p q l e = named l e ∙ ap₂ (λ a b. rule (a && b) (holding (Assign place symbol) (parse Trace (σ .readable) (drop 5 body)))) p q
+
+  pub assign-low : getD body 0 0 ≡ 1 → 5 ≤ length body → symbol < σ .least → replyOf (stmt top σ body) ≡ 6
+  assign-low e l k = ap replyOf (ruled false (ltb symbol top) (lt-leb (σ .least) symbol k) refl l e)
+
+  pub assign-high : getD body 0 0 ≡ 1 → 5 ≤ length body → σ .least ≤ symbol → top ≤ symbol → replyOf (stmt top σ body) ≡ 6
+  assign-high e l k m = ap replyOf (ruled true false (le-leb (σ .least) symbol k) (le-ltb symbol top m) l e)
+
+  pub assign-expr : getD body 0 0 ≡ 1 → 5 ≤ length body → σ .least ≤ symbol → symbol < top → replyOf (stmt top σ body) ≡ exprReply (parse Trace (σ .readable) (drop 5 body))
+  assign-expr e l k m =
+      ap replyOf (ruled true true (le-leb (σ .least) symbol k) (lt-ltb symbol top m) l e)
+      ∙ reply-holding (Assign place symbol) (parse Trace (σ .readable) (drop 5 body))
+
+  -- a test of either kind
+  module _ (k : Kind) (is : stmt top σ body ≡ field 2 (drop 1 body) (testAt σ k)) where
+    pub test-short : length body < 3 → replyOf (stmt top σ body) ≡ 5
+    test-short l = ap replyOf (is ∙ field-missing 2 rest (testAt σ k) (omega (arith, left)))
+
+    pub test-expr : 3 ≤ length body → replyOf (stmt top σ body) ≡ exprReply (parse Trace (σ .readable) (drop 3 body))
+    test-expr l =
+        ap replyOf (is ∙ field-there 2 rest (testAt σ k) (omega (arith, left)) ∙ ap (testAt σ k place) (drop-drop 2 1 body))
+        ∙ reply-holding (Test k place) (parse Trace (σ .readable) (drop 3 body))
+
+  pub unknown : (getD body 0 0 ≡ 1 → ⊥) → (getD body 0 0 ≡ 2 → ⊥) → (getD body 0 0 ≡ 3 → ⊥) → replyOf (stmt top σ body) ≡ 5
+  unknown a b c = ap replyOf (kind-unknown top σ body h a b c)

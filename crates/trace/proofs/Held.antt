@@ -1,0 +1,98 @@
+-- The statement that a record holds, read at an offset of the trace: where its expression stands, its place, and its symbol or kind.
+use Prim.Native.Nat.{ℕ, _+_, _-_, _≤_, _<_}
+use native.Mathlib.Omega.{arith}
+use mathlib.Core.Path.{_≡_, refl, sym, ap, ap₂, _∙_, subst}
+use mathlib.Core.Bool.{true}
+use mathlib.Core.List.{List}
+use lib.ListN.{length, take, drop, getD}
+use borrow.Author.Tests.{eq-eqb, ne-eqb}
+use Rattle.expr.specs.declared.File.the-variants.{Trace}
+use Rattle.expr.specs.Number.{numberOf}
+use Rattle.expr.specs.Token.{Token}
+use Rattle.expr.specs.Expr.{Whole, parse}
+use Rattle.file.specs.Outcome.{Kind, Assume, Assert}
+use Rattle.file.specs.File.{Body, Good, Bad, frame, recordOf}
+use Rattle.file.specs.Shown.{isGood}
+use Rattle.file.specs.RecordLaws.{read-body, body-length, body-some, body-inside, body-part, body-kind, body-number}
+use Rattle.trace.specs.Trace.{Stmt, Assign, Test, Seen, stmt}
+use Rattle.trace.specs.TraceLaws.{Says, says-assign, says-assume, says-assert, says}
+use Rattle.trace.specs.Shown.{kindOf, exprStart, exprOf}
+
+pub record Held (top : ℕ) (σ : Seen) (s : List ℕ) (at : ℕ) : Type 0 where
+  pub statement : Stmt
+  pub is : recordOf (stmt top σ) (drop at s) ≡ Good statement
+  pub whole : at + 2 + numberOf 2 (drop at s) ≤ length s
+  pub kind-there : at + 2 < length s
+  pub starts : at + exprStart (getD s (at + 2) 0) ≤ at + 2 + numberOf 2 (drop at s)
+  pub parsed : parse Trace (σ .readable) (take (at + 2 + numberOf 2 (drop at s) - (at + exprStart (getD s (at + 2) 0))) (drop (at + exprStart (getD s (at + 2) 0)) s)) ≡ Whole (exprOf statement)
+  pub assigns : getD s (at + 2) 0 ≡ 1
+      → (statement ≡ Assign (numberOf 2 (drop (at + 3) s)) (numberOf 2 (drop (at + 5) s)) (exprOf statement)) × (numberOf 2 (drop (at + 5) s) < top) × (at + 7 ≤ length s)
+  pub tests : (getD s (at + 2) 0 ≡ 1 → ⊥) → (statement ≡ Test (kindOf (getD s (at + 2) 0)) (numberOf 2 (drop (at + 3) s)) (exprOf statement)) × (at + 5 ≤ length s)
+
+module _ (top : ℕ) (σ : Seen) (s : List ℕ) (at : ℕ) where
+  module _ (x : Stmt) (g : recordOf (stmt top σ) (drop at s) ≡ Good x) where
+    abbrev body : List ℕ
+    body = take (frame (drop at s)) (drop 2 (drop at s))
+
+    long : length body ≡ numberOf 2 (drop at s)
+    long = body-length (stmt top σ) s at x g
+
+    inside : at + 2 + numberOf 2 (drop at s) ≤ length s
+    inside = body-inside (stmt top σ) s at x g
+
+    kind : getD body 0 0 ≡ getD s (at + 2) 0
+    kind = body-kind (stmt top σ) s at x g
+
+    number : (i : ℕ) → i + 2 ≤ length body → numberOf 2 (drop i body) ≡ numberOf 2 (drop (at + (2 + i)) s)
+    number i h = body-number (stmt top σ) s at x g i 2 h
+
+    -- the expression from k on, where the kind's expression begins at 2 + k
+    placed : (k : ℕ) → exprStart (getD s (at + 2) 0) ≡ 2 + k → (e : List Token) → parse Trace (σ .readable) (drop k body) ≡ Whole e
+        → parse Trace (σ .readable) (take (at + 2 + numberOf 2 (drop at s) - (at + exprStart (getD s (at + 2) 0))) (drop (at + exprStart (getD s (at + 2) 0)) s)) ≡ Whole e
+    placed k q e p =
+        subst (λ m. parse Trace (σ .readable) (take (at + 2 + numberOf 2 (drop at s) - (at + m)) (drop (at + m) s)) ≡ Whole e) (sym q)
+        (ap (parse Trace (σ .readable)) (sym (body-part (stmt top σ) s at x g k)) ∙ p)
+
+    test : (k : Kind) (e : List Token) → (getD s (at + 2) 0 ≡ 1 → ⊥) → kindOf (getD s (at + 2) 0) ≡ k → 3 ≤ length body → parse Trace (σ .readable) (drop 3 body) ≡ Whole e
+        → recordOf (stmt top σ) (drop at s) ≡ Good (Test k (numberOf 2 (drop 1 body)) e) → Held top σ s at
+    test k e c d h p g =
+        let q : exprStart (getD s (at + 2) 0) ≡ 5 = rw (ne-eqb (getD s (at + 2) 0) 1 c) in
+        record {
+          statement = Test k (numberOf 2 (drop 1 body)) e;
+          is = g;
+          whole = inside;
+          kind-there = omega (arith, inside, long);
+          starts = omega (arith, long);
+          parsed = placed 3 q e p;
+          assigns = λ z. absurd (c z);
+          tests = λ z. (ap₂ {C = Stmt} (λ k w. Test k w e) (sym d) (number 1 h), omega (arith, long, inside));
+        }
+
+    held : (x : Stmt) → recordOf (stmt top σ) (drop at s) ≡ Good x → Says top σ body x → Held top σ s at
+    held x g (says-assign e k h l m p) =
+        let c : getD s (at + 2) 0 ≡ 1 = sym kind ∙ k in
+        let q : exprStart (getD s (at + 2) 0) ≡ 7 = rw (eq-eqb (getD s (at + 2) 0) 1 c) in
+        let y = number 3 h in
+        record {
+          statement = Assign (numberOf 2 (drop 1 body)) (numberOf 2 (drop 3 body)) e;
+          is = g;
+          whole = inside;
+          kind-there = omega (arith, inside, long);
+          starts = omega (arith, long);
+          parsed = placed 5 q e p;
+          assigns = λ z. (ap₂ {C = Stmt} (λ w v. Assign w v e) (number 1 (omega arith)) y, subst (λ v. v < top) y m, omega (arith, long, inside));
+          tests = λ z. absurd (z c);
+        }
+    held x g (says-assume e k h p) =
+        let c : getD s (at + 2) 0 ≡ 2 = sym kind ∙ k in
+        test Assume e (λ z. omega arith) (rw (ne-eqb (getD s (at + 2) 0) 3 (λ z. omega arith))) h p g
+    held x g (says-assert e k h p) =
+        let c : getD s (at + 2) 0 ≡ 3 = sym kind ∙ k in
+        test Assert e (λ z. omega arith) (rw (eq-eqb (getD s (at + 2) 0) 3 c)) h p g
+
+  pub held-at : isGood (recordOf (stmt top σ) (drop at s)) ≡ true → Held top σ s at
+  held-at h = go (recordOf (stmt top σ) (drop at s)) refl h
+    where
+      go : (b : Body Stmt) → recordOf (stmt top σ) (drop at s) ≡ b → isGood b ≡ true → Held top σ s at
+      go (Good x) g h = held x g x g (says top σ (take (frame (drop at s)) (drop 2 (drop at s))) (body-some (stmt top σ) s at x g) x (read-body (stmt top σ) s at x g))
+      go (Bad r) g h = absurd (let z : _≡_ {A = ℕ} 0 1 = cc in omega arith)

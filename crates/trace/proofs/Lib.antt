@@ -1,0 +1,7 @@
+pub mod Bodies
+pub mod Held
+pub mod Learning
+pub mod Walk
+pub mod Moves
+pub mod Judging
+pub mod Answers

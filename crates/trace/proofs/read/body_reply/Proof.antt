@@ -1,0 +1,78 @@
+use mathlib.Core.Path.{sym, _∙_}
+use Prim.Native.Nat.{_+_}
+use Rattle.file.specs.Outcome.{Assume, Assert}
+use Rattle.trace.specs.Trace.{Seen}
+use Rattle.trace.specs.TraceLaws.{kind-assume, kind-assert}
+use Rattle.trace.specs.Shown.{seen}
+use Rattle.trace.proofs.Bodies.{assign-short, assign-low, assign-high, assign-expr, test-short, test-expr, unknown}
+use borrow.Author.Needs.{needs}
+use Rattle.trace.proofs.read.body_reply.Statement.{statement}
+use Rattle.trace.proofs.read.body_reply.Tie as tie
+
+abbrev σ : tie.Start → Seen
+σ c = seen (c .args .inputs) (c .args .least) (c .args .assigned .now)
+
+shared-slice-read-kind : tie.Need-shared-slice-read-kind
+shared-slice-read-kind c = search needs
+
+returns : tie.Need-returns
+returns c = sym (assign-short (c .before .before .before .before .before .args .inputs + 4096) (σ (c .before .before .before .before .before)) (c .before .before .before .before .before .args .body .now) (c .before .before .before .before .before .pre .0) (c .before .if1 .taken) (c .if2 .taken))
+
+two-at-requires : tie.Need-two-at-requires
+two-at-requires c κs = search needs
+
+returns-2 : tie.Need-returns-2
+returns-2 c = sym (assign-low (c .before .before .before .before .before .before .before .args .inputs + 4096) (σ (c .before .before .before .before .before .before .before)) (c .before .before .before .before .before .before .before .args .body .now) (c .before .before .before .before .before .before .before .pre .0) (c .before .before .before .if1 .taken) (c .before .before .if2 .left) (rw (c .before .two-at .ensures .0) at (c .if3 .taken)))
+
+add-if4 : tie.Need-add-if4
+add-if4 c = search needs
+
+returns-3 : tie.Need-returns-3
+returns-3 c = sym (assign-high (c .before .before .before .before .before .before .before .before .args .inputs + 4096) (σ (c .before .before .before .before .before .before .before .before)) (c .before .before .before .before .before .before .before .before .args .body .now) (c .before .before .before .before .before .before .before .before .pre .0) (c .before .before .before .before .if1 .taken) (c .before .before .before .if2 .left) (rw (c .before .before .two-at .ensures .0) at (c .before .if3 .left)) (rw (c .before .before .two-at .ensures .0) at (c .if4 .taken)))
+
+expr-reply-requires : tie.Need-expr-reply-requires
+expr-reply-requires c κs = search needs
+
+returns-4 : tie.Need-returns-4
+returns-4 c = c .expr-reply .ensures ∙ sym (assign-expr (c .before .before .before .before .before .before .before .before .before .args .inputs + 4096) (σ (c .before .before .before .before .before .before .before .before .before)) (c .before .before .before .before .before .before .before .before .before .args .body .now) (c .before .before .before .before .before .before .before .before .before .pre .0) (c .before .before .before .before .before .if1 .taken) (c .before .before .before .before .if2 .left) (rw (c .before .before .before .two-at .ensures .0) at (c .before .before .if3 .left)) (rw (c .before .before .before .two-at .ensures .0) at (c .before .if4 .left)))
+
+returns-5 : tie.Need-returns-5
+returns-5 c = sym (test-short (c .before .before .before .before .before .before .args .inputs + 4096) (σ (c .before .before .before .before .before .before)) (c .before .before .before .before .before .before .args .body .now) (c .before .before .before .before .before .before .pre .0) Assume (kind-assume (c .before .before .before .before .before .before .args .inputs + 4096) (σ (c .before .before .before .before .before .before)) (c .before .before .before .before .before .before .args .body .now) (c .before .before .before .before .before .before .pre .0) (c .before .if5 .taken)) (c .if6 .taken))
+
+expr-reply-requires-2 : tie.Need-expr-reply-requires-2
+expr-reply-requires-2 c κs = search needs
+
+returns-6 : tie.Need-returns-6
+returns-6 c = c .expr-reply2 .ensures ∙ sym (test-expr (c .before .before .before .before .before .before .before .args .inputs + 4096) (σ (c .before .before .before .before .before .before .before)) (c .before .before .before .before .before .before .before .args .body .now) (c .before .before .before .before .before .before .before .pre .0) Assume (kind-assume (c .before .before .before .before .before .before .before .args .inputs + 4096) (σ (c .before .before .before .before .before .before .before)) (c .before .before .before .before .before .before .before .args .body .now) (c .before .before .before .before .before .before .before .pre .0) (c .before .before .if5 .taken)) (c .before .if6 .left))
+
+returns-7 : tie.Need-returns-7
+returns-7 c = sym (test-short (c .before .before .before .before .before .before .before .args .inputs + 4096) (σ (c .before .before .before .before .before .before .before)) (c .before .before .before .before .before .before .before .args .body .now) (c .before .before .before .before .before .before .before .pre .0) Assert (kind-assert (c .before .before .before .before .before .before .before .args .inputs + 4096) (σ (c .before .before .before .before .before .before .before)) (c .before .before .before .before .before .before .before .args .body .now) (c .before .before .before .before .before .before .before .pre .0) (c .before .if7 .taken)) (c .if8 .taken))
+
+expr-reply-requires-3 : tie.Need-expr-reply-requires-3
+expr-reply-requires-3 c κs = search needs
+
+returns-8 : tie.Need-returns-8
+returns-8 c = c .expr-reply3 .ensures ∙ sym (test-expr (c .before .before .before .before .before .before .before .before .args .inputs + 4096) (σ (c .before .before .before .before .before .before .before .before)) (c .before .before .before .before .before .before .before .before .args .body .now) (c .before .before .before .before .before .before .before .before .pre .0) Assert (kind-assert (c .before .before .before .before .before .before .before .before .args .inputs + 4096) (σ (c .before .before .before .before .before .before .before .before)) (c .before .before .before .before .before .before .before .before .args .body .now) (c .before .before .before .before .before .before .before .before .pre .0) (c .before .before .if7 .taken)) (c .before .if8 .left))
+
+returns-9 : tie.Need-returns-9
+returns-9 c = sym (unknown (c .before .before .before .before .before .before .args .inputs + 4096) (σ (c .before .before .before .before .before .before)) (c .before .before .before .before .before .before .args .body .now) (c .before .before .before .before .before .before .pre .0) (c .before .before .if1 .left) (c .before .if5 .left) (c .if7 .left))
+
+pub body-reply-spec : {M : Type 1} → statement M
+body-reply-spec =
+    tie.close
+    (tie.spec
+    shared-slice-read-kind
+    returns
+    two-at-requires
+    returns-2
+    add-if4
+    returns-3
+    expr-reply-requires
+    returns-4
+    returns-5
+    expr-reply-requires-2
+    returns-6
+    returns-7
+    expr-reply-requires-3
+    returns-8
+    returns-9)

@@ -1,0 +1,7 @@
+-- What a reader must believe, beside document 01; each definition has its laws beside it.
+pub mod Trace
+pub mod TraceLaws
+pub mod Judge
+pub mod Answer
+-- What the code's values mean in these terms.
+pub mod Shown

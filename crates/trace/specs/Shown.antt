@@ -1,0 +1,105 @@
+-- What the code's values mean: its answers as functions of the definitions.
+use Prim.Native.Nat.{ℕ, suc, _+_, _≤_, _<_}
+use mathlib.Core.Path.{_≡_}
+use mathlib.Core.Bool.{Bool, true, cond}
+use mathlib.Core.List.{List}
+use lib.ListN.{length, drop, getD, set}
+use lib.Seq.{sets}
+use lib.Dec.{eqb}
+use Rattle.expr.specs.Token.{Token}
+use Rattle.expr.specs.Expr.{below, readable}
+use Rattle.expr.specs.Eval.{Env, envOf, update, value}
+use Rattle.expr.specs.Word.{truthy}
+use Rattle.file.specs.Outcome.{Kind, Assume, Assert, Outcome, Lost, Failed, verdict, placeOf}
+use Rattle.file.specs.File.{headerCount, Body, Good, Bad, recordOf}
+use Rattle.file.specs.Shown.{readCount, readFold, readingOf, offsetsFrom, isAccepted}
+use Rattle.file.specs.declared.Reading.{Reading}
+use Rattle.trace.specs.declared.steps.Move.{Move}
+use Rattle.trace.specs.declared.steps.Move.the-variants as M
+use Rattle.trace.specs.Trace.{Stmt, Assign, Test, Seen, see, stmt, stmtsFrom, readTrace}
+
+-- ---- reading
+
+-- the state that the code keeps: the symbols assigned as an array, and the least that may be assigned
+abbrev pub seen : (S least : ℕ) (assigned : List Bool) → Seen
+seen S l assigned = record { readable = readable S assigned; least = l }
+
+abbrev pub leastAfter : Body Stmt → ℕ → ℕ
+leastAfter (Good (Assign p x e)) l = suc x
+leastAfter (Good (Test k p e)) l = l
+leastAfter (Bad r) l = l
+
+abbrev pub mark : List Bool → Stmt → List Bool
+mark assigned (Assign p x e) = set assigned x true
+mark assigned (Test k p e) = assigned
+
+abbrev pub markedBy : Body Stmt → List Bool → List Bool
+markedBy (Good x) assigned = mark assigned x
+markedBy (Bad r) assigned = assigned
+
+-- of c statements, how many are read before the first refusal, and the symbols that they assign
+abbrev pub stmtCount : (S c : ℕ) → Seen → List ℕ → ℕ
+stmtCount S c σ bs = readCount (stmt (S + 4096)) see c σ bs
+
+abbrev pub marksFrom : (S c : ℕ) → Seen → List Bool → List ℕ → List Bool
+marksFrom S c σ assigned bs = readFold (stmt (S + 4096)) see mark assigned c σ bs
+
+-- the reading of the records after a trace's header, with the offsets stored and the assigned symbols marked
+pub record ReadRecords (trace : List ℕ) (S n : ℕ) (before after : List ℕ) (marks marks′ : List Bool) (r : Reading) : Type 0 where
+  pub answer : r ≡ readingOf (length trace) (stmtCount S n (seen S S marks) (drop 6 trace)) (stmtsFrom S n (seen S S marks) (drop 6 trace))
+  pub stored : after ≡ sets before 0 (offsetsFrom (r .count) 6 (drop 6 trace))
+  pub marked : marks′ ≡ marksFrom S n (seen S S marks) marks (drop 6 trace)
+
+-- ---- judging
+
+-- what every accepted statement keeps to: symbols below 4,160
+abbrev pub loose : Seen
+loose = record { readable = below 4160; least = 0 }
+
+abbrev pub held : List ℕ → Body Stmt
+held bs = recordOf (stmt 4160 loose) bs
+
+-- a test's kind by its code
+abbrev pub kindOf : (code : ℕ) → Kind
+kindOf k = cond (eqb k 3) Assert Assume
+
+-- where the expression begins in a record, by its kind's code
+abbrev pub exprStart : (code : ℕ) → ℕ
+exprStart k = cond (eqb k 1) 7 5
+
+abbrev pub exprOf : Stmt → List Token
+exprOf (Assign p x e) = e
+exprOf (Test k p e) = e
+
+abbrev pub valueIn : Body Stmt → Env → ℕ
+valueIn (Good x) σ = value σ (exprOf x)
+valueIn (Bad r) σ = 0
+
+-- one statement: judging goes on in an environment, or ends
+pub data Next : Type 0 where
+  Halt : Outcome → Next
+  On : Env → Next
+
+abbrev pub step : Stmt → Env → Next
+step (Assign p x e) σ = On (update σ x (value σ e))
+step (Test k p e) σ = cond (truthy (value σ e)) (On σ) (Halt (Failed k p))
+
+abbrev pub stepBody : Body Stmt → Env → Next
+stepBody (Good x) σ = step x σ
+stepBody (Bad r) σ = Halt Lost
+
+-- the code's move, and the values that it leaves
+abbrev pub Moved : Next → Move → (cells : List ℕ) → Type 0
+Moved (Halt o) m cells = m ≡ M.End (verdict o) (placeOf o)
+Moved (On τ) m cells = (m ≡ M.Go) × (envOf cells ≡ τ)
+
+abbrev pub endOf : Outcome → Move
+endOf o = M.End (verdict o) (placeOf o)
+
+-- a trace that is ready to be judged: accepted, its records' offsets stored, a cell for every symbol
+pub record Ready (trace offsets : List ℕ) (n : ℕ) (cells : List ℕ) : Type 0 where
+  pub accepted : isAccepted (readTrace trace) ≡ true
+  pub count : n ≡ headerCount trace
+  pub room : n ≤ length offsets
+  pub stored : (i : ℕ) → i < n → getD offsets i 0 ≡ getD (offsetsFrom n 6 (drop 6 trace)) i 0
+  pub cell : length cells ≡ 4160

@@ -1,0 +1,197 @@
+-- The laws of reading a trace: a record by its kind; what is read is well formed; where each statement stands.
+use Prim.Native.Nat.{ℕ, zero, suc, _+_, _≤_, _<_}
+use native.Mathlib.Omega.{arith}
+use mathlib.Core.Path.{_≡_, refl, sym, ap, _∙_, subst}
+use mathlib.Core.Bool.{Bool, true, false, cond, _&&_}
+use mathlib.Core.List.{List, [], _∷_}
+use lib.ListN.{length, take, drop, getD, length-drop}
+use lib.Seq.{length-take-le, drop-drop}
+use lib.Dec.{eqb, leb, ltb}
+use borrow.Author.Tests.{eqb-true, eqb-false, eq-eqb, ne-eqb, le-leb, leb-true, ltb-true, lt-ltb}
+use Rattle.expr.specs.declared.File.the-variants.{Trace}
+use Rattle.expr.specs.Lists.{and-both, or-cases}
+use Rattle.expr.specs.Number.{numberOf}
+use Rattle.expr.specs.Token.{Token}
+use Rattle.expr.specs.Expr.{readable, Whole, parse}
+use Rattle.expr.specs.ExprLaws.{parse-more}
+use Rattle.file.specs.Outcome.{Kind, Assume, Assert}
+use Rattle.file.specs.File.{Body, Good, Bad, field, frame, Read, recordOf}
+use Rattle.file.specs.Shown.{offsetsFrom}
+use Rattle.file.specs.FileLaws.{Low, holding-low, cond-low, framed, record-framed, record-good, next-record, records-chain, field-there, field-good, rule-good, holding-good}
+use Rattle.trace.specs.Trace.{Stmt, Assign, Test, Seen, see, assign, assignAt, testAt, stmt, stmtsFrom}
+use Rattle.trace.specs.Shown.{loose}
+
+-- ---- a record by its kind
+
+module _ (top : ℕ) (σ : Seen) (body : List ℕ) (h : 0 < length body) where
+  abbrev kind : ℕ
+  kind = getD body 0 0
+
+  opened : (body : List ℕ) → 0 < length body → stmt top σ body ≡
+      cond (eqb (getD body 0 0) 1) (field 2 (drop 1 body) (assignAt top σ))
+      (cond (eqb (getD body 0 0) 2) (field 2 (drop 1 body) (testAt σ Assume))
+      (cond (eqb (getD body 0 0) 3) (field 2 (drop 1 body) (testAt σ Assert))
+      (Bad 5)))
+  unfolding stmt
+  opened [] h = absurd (omega arith)
+  opened (k ∷ bs) h = refl
+
+  pub kind-assign : getD body 0 0 ≡ 1 → stmt top σ body ≡ field 2 (drop 1 body) (assignAt top σ)
+  kind-assign e = opened body h ∙ rw (eq-eqb kind 1 e)
+
+  pub kind-assume : getD body 0 0 ≡ 2 → stmt top σ body ≡ field 2 (drop 1 body) (testAt σ Assume)
+  kind-assume e = opened body h ∙ rw (ne-eqb kind 1 (λ q. omega arith), eq-eqb kind 2 e)
+
+  pub kind-assert : getD body 0 0 ≡ 3 → stmt top σ body ≡ field 2 (drop 1 body) (testAt σ Assert)
+  kind-assert e = opened body h ∙ rw (ne-eqb kind 1 (λ q. omega arith), ne-eqb kind 2 (λ q. omega arith), eq-eqb kind 3 e)
+
+  pub kind-unknown : (getD body 0 0 ≡ 1 → ⊥) → (getD body 0 0 ≡ 2 → ⊥) → (getD body 0 0 ≡ 3 → ⊥) → stmt top σ body ≡ Bad 5
+  kind-unknown a b c = opened body h ∙ rw (ne-eqb kind 1 a, ne-eqb kind 2 b, ne-eqb kind 3 c)
+
+pub stmt-low : (top : ℕ) (σ : Seen) (bs : List ℕ) → Low (stmt top σ bs)
+unfolding stmt
+stmt-low top σ [] = (omega arith, omega arith)
+stmt-low top σ (k ∷ bs) =
+    cond-low (eqb k 1) _ _
+    (cond-low (leb 2 (length bs)) _ _
+    (cond-low (leb 2 (length (drop 2 bs))) _ _
+    (cond-low (leb (σ .least) (numberOf 2 (drop 2 bs)) && ltb (numberOf 2 (drop 2 bs)) top) _ _
+    (holding-low (Assign (numberOf 2 bs) (numberOf 2 (drop 2 bs))) (parse Trace (σ .readable) (drop 2 (drop 2 bs)))) six) five) five)
+    (cond-low (eqb k 2) _ _ (cond-low (leb 2 (length bs)) _ _ (holding-low (Test Assume (numberOf 2 bs)) (parse Trace (σ .readable) (drop 2 bs))) five)
+    (cond-low (eqb k 3) _ _ (cond-low (leb 2 (length bs)) _ _ (holding-low (Test Assert (numberOf 2 bs)) (parse Trace (σ .readable) (drop 2 bs))) five) five))
+  where
+    five : (5 ≤ 5) × (5 ≤ 7)
+    five = omega arith
+
+    six : (5 ≤ 6) × (6 ≤ 7)
+    six = omega arith
+
+-- ---- what a record that is read says
+
+pub data Says (top : ℕ) (σ : Seen) (body : List ℕ) : Stmt → Type 0 where
+  says-assign : (e : List Token) → getD body 0 0 ≡ 1 → 5 ≤ length body → σ .least ≤ numberOf 2 (drop 3 body) → numberOf 2 (drop 3 body) < top
+      → parse Trace (σ .readable) (drop 5 body) ≡ Whole e → Says top σ body (Assign (numberOf 2 (drop 1 body)) (numberOf 2 (drop 3 body)) e)
+  says-assume : (e : List Token) → getD body 0 0 ≡ 2 → 3 ≤ length body → parse Trace (σ .readable) (drop 3 body) ≡ Whole e
+      → Says top σ body (Test Assume (numberOf 2 (drop 1 body)) e)
+  says-assert : (e : List Token) → getD body 0 0 ≡ 3 → 3 ≤ length body → parse Trace (σ .readable) (drop 3 body) ≡ Whole e
+      → Says top σ body (Test Assert (numberOf 2 (drop 1 body)) e)
+
+module _ (top : ℕ) (σ : Seen) (body : List ℕ) (h : 0 < length body) where
+  abbrev rest : List ℕ
+  rest = drop 1 body
+
+  set-says : (x : Stmt) → getD body 0 0 ≡ 1 → field 2 (drop 1 body) (assignAt top σ) ≡ Good x → Says top σ body x
+  set-says x e q =
+      let p = numberOf 2 (drop 1 body) in
+      let a = field-good 2 (drop 1 body) (assignAt top σ) x q in
+      let d : drop 2 (drop 1 body) ≡ drop 3 body = drop-drop 2 1 body in
+      let b = field-good 2 (drop 3 body) (assign top σ p) x (ap (assignAt top σ p) (sym d) ∙ a .1) in
+      let y = numberOf 2 (drop 3 body) in
+      let c = rule-good (leb (σ .least) y && ltb y top) _ x (b .1) in
+      let u = and-both (leb (σ .least) y) (ltb y top) (c .0) in
+      let w = holding-good (Assign p y) (parse Trace (σ .readable) (drop 2 (drop 3 body))) x (c .1) in
+      subst (Says top σ body) (sym (w .is))
+      (says-assign (w .expr) e (omega (arith, b .0, length-drop 3 body)) (leb-true (σ .least) y (u .0)) (ltb-true y top (u .1))
+      (ap (parse Trace (σ .readable)) (sym (drop-drop 2 3 body)) ∙ w .parsed))
+
+  test-fields : (k : Kind) (x : Stmt) → field 2 (drop 1 body) (testAt σ k) ≡ Good x
+      → (3 ≤ length body) × ((e : List Token) × (parse Trace (σ .readable) (drop 3 body) ≡ Whole e) × (x ≡ Test k (numberOf 2 (drop 1 body)) e))
+  test-fields k x q =
+      let a = field-good 2 (drop 1 body) (testAt σ k) x q in
+      let w = holding-good (Test k (numberOf 2 (drop 1 body))) (parse Trace (σ .readable) (drop 2 (drop 1 body))) x (a .1) in
+      (omega (arith, a .0, length-drop 1 body), (w .expr, ap (parse Trace (σ .readable)) (sym (drop-drop 2 1 body)) ∙ w .parsed, w .is))
+
+  pub says : (x : Stmt) → stmt top σ body ≡ Good x → Says top σ body x
+  says x q = go (eqb (getD body 0 0) 1) refl (eqb (getD body 0 0) 2) refl (eqb (getD body 0 0) 3) refl
+    where
+      is : (v : ℕ) → eqb (getD body 0 0) v ≡ true → getD body 0 0 ≡ v
+      is v e = eqb-true (getD body 0 0) v e
+
+      go : (a : Bool) → eqb (getD body 0 0) 1 ≡ a → (b : Bool) → eqb (getD body 0 0) 2 ≡ b → (c : Bool) → eqb (getD body 0 0) 3 ≡ c → Says top σ body x
+      go true e b f c g = set-says x (is 1 e) (sym (kind-assign top σ body h (is 1 e)) ∙ q)
+      go false e true f c g =
+          let u = test-fields Assume x (sym (kind-assume top σ body h (is 2 f)) ∙ q) in
+          subst (Says top σ body) (sym (u .1 .2)) (says-assume (u .1 .0) (is 2 f) (u .0) (u .1 .1))
+      go false e false f true g =
+          let u = test-fields Assert x (sym (kind-assert top σ body h (is 3 g)) ∙ q) in
+          subst (Says top σ body) (sym (u .1 .2)) (says-assert (u .1 .0) (is 3 g) (u .0) (u .1 .1))
+      go false e false f false g =
+          absurd (
+          let z = sym q ∙ kind-unknown top σ body h (eqb-false (getD body 0 0) 1 e) (eqb-false (getD body 0 0) 2 f) (eqb-false (getD body 0 0) 3 g) in
+          let y : _≡_ {A = ℕ} 0 1 = cc in omega arith)
+
+-- and back
+pub said : (top : ℕ) (σ : Seen) (body : List ℕ) (x : Stmt) → Says top σ body x → stmt top σ body ≡ Good x
+said top σ body x (says-assign e k l m n p) =
+    kind-assign top σ body (omega arith) k
+    ∙ field-there 2 (drop 1 body) (assignAt top σ) (omega (arith, length-drop 1 body))
+    ∙ ap (assignAt top σ (numberOf 2 (drop 1 body))) (drop-drop 2 1 body)
+    ∙ field-there 2 (drop 3 body) (assign top σ (numberOf 2 (drop 1 body))) (omega (arith, length-drop 3 body))
+    ∙ rw (le-leb (σ .least) (numberOf 2 (drop 3 body)) m, lt-ltb (numberOf 2 (drop 3 body)) top n, drop-drop 2 3 body, p)
+said top σ body x (says-assume e k l p) =
+    kind-assume top σ body (omega arith) k ∙ field-there 2 (drop 1 body) (testAt σ Assume) (omega (arith, length-drop 1 body)) ∙ rw (drop-drop 2 1 body, p)
+said top σ body x (says-assert e k l p) =
+    kind-assert top σ body (omega arith) k ∙ field-there 2 (drop 1 body) (testAt σ Assert) (omega (arith, length-drop 1 body)) ∙ rw (drop-drop 2 1 body, p)
+
+-- ---- where more is allowed, a record holds the same statement
+
+pub record Wider (top : ℕ) (σ : Seen) (top′ : ℕ) (τ : Seen) : Type 0 where
+  pub higher : top ≤ top′
+  pub lower : τ .least ≤ σ .least
+  pub reads : (x : ℕ) → σ .readable x ≡ true → τ .readable x ≡ true
+
+pub record-wider : (top : ℕ) (σ : Seen) (top′ : ℕ) (τ : Seen) → Wider top σ top′ τ → (bs : List ℕ) (x : Stmt) → recordOf (stmt top σ) bs ≡ Good x → recordOf (stmt top′ τ) bs ≡ Good x
+record-wider top σ top′ τ w bs x g =
+    let k = record-good (stmt top σ) bs x g in
+    let f = framed bs (k .0) in
+    let l = length-take-le (frame bs) (drop 2 bs) (omega (arith, f .inside, length-drop 2 bs)) in
+    let body = take (frame bs) (drop 2 bs) in
+    record-framed (stmt top′ τ) bs (k .0) ∙ said top′ τ body x (go body x (says top σ body (omega (arith, l, k .0)) x (k .1)))
+  where
+    more : (bs : List ℕ) (e : List Token) → parse Trace (σ .readable) bs ≡ Whole e → parse Trace (τ .readable) bs ≡ Whole e
+    more bs e q = parse-more Trace (σ .readable) (τ .readable) (w .reads) 0 0 bs e q
+
+    go : (body : List ℕ) (x : Stmt) → Says top σ body x → Says top′ τ body x
+    go body x (says-assign e k l m n p) = says-assign e k l (omega (arith, w .lower)) (omega (arith, w .higher)) (more (drop 5 body) e p)
+    go body x (says-assume e k l p) = says-assume e k l (more (drop 3 body) e p)
+    go body x (says-assert e k l p) = says-assert e k l (more (drop 3 body) e p)
+
+-- an assigned symbol is below the top
+pub assigned-below : (top : ℕ) (σ : Seen) (bs : List ℕ) (p y : ℕ) (e : List Token) → recordOf (stmt top σ) bs ≡ Good (Assign p y e) → y < top
+assigned-below top σ bs p y e g =
+    let k = record-good (stmt top σ) bs (Assign p y e) g in
+    let f = framed bs (k .0) in
+    let l = length-take-le (frame bs) (drop 2 bs) (omega (arith, f .inside, length-drop 2 bs)) in
+    go (Assign p y e) (says top σ (take (frame bs) (drop 2 bs)) (omega (arith, l, k .0)) (Assign p y e) (k .1)) refl
+  where
+    go : (x : Stmt) → Says top σ (take (frame bs) (drop 2 bs)) x → x ≡ Assign p y e → y < top
+    go x (says-assign e′ k l m n q) z = let w : numberOf 2 (drop 3 (take (frame bs) (drop 2 bs))) ≡ y = cc in subst (λ v. v < top) w n
+    go x (says-assume e′ k l q) z = absurd (let w : _≡_ {A = ℕ} 0 1 = cc in omega arith)
+    go x (says-assert e′ k l q) z = absurd (let w : _≡_ {A = ℕ} 0 1 = cc in omega arith)
+
+-- ---- where a statement stands
+
+-- what a statement allows to those after it is within what every accepted statement keeps to
+wider-after : (top : ℕ) (σ : Seen) → Wider top σ 4160 loose → (bs : List ℕ) (x : Stmt) → recordOf (stmt top σ) bs ≡ Good x → Wider top (see σ x) 4160 loose
+wider-after top σ w bs (Assign p x e) g = record {
+  higher = w .higher;
+  lower = omega arith;
+  reads = λ y q. or-cases (eqb y x) (σ .readable y) (λ z. lt-ltb y 4160 (omega (arith, eqb-true y x z, assigned-below top σ bs p x e g, w .higher))) (w .reads y) q;
+}
+wider-after top σ w bs (Test k p e) g = w
+
+pub stmt-at : (s : List ℕ) (S c at : ℕ) (σ : Seen) → Wider (S + 4096) σ 4160 loose → (ts : List Stmt) → stmtsFrom S c σ (drop at s) ≡ Read ts
+    → (i : ℕ) (x : Stmt) (xs : List Stmt) → drop i ts ≡ x ∷ xs → recordOf (stmt 4160 loose) (drop (getD (offsetsFrom c at (drop at s)) i 0) s) ≡ Good x
+unfolding offsetsFrom
+stmt-at s S zero at σ w ts h i x xs d =
+    absurd (let k = records-chain (stmt (S + 4096)) see s (λ σ a. Unit {0}) (λ σ l m a q. tt) 0 at σ ts h in
+    omega (arith, k .1, ap length d, length-drop i ts))
+stmt-at s S (suc c) at σ w ts h zero x xs d =
+    let k = next-record (stmt (S + 4096)) see s at c σ ts h in
+    let e : k .head ≡ x = (let z = sym (k .is) ∙ d in cc) in
+    record-wider (S + 4096) σ 4160 loose w (drop at s) x (k .good ∙ ap {B = Body Stmt} Good e)
+stmt-at s S (suc c) at σ w ts h (suc i) x xs d =
+    let k = next-record (stmt (S + 4096)) see s at c σ ts h in
+    let l = 2 + frame (drop at s) in
+    ap (λ bs. recordOf (stmt 4160 loose) (drop (getD (offsetsFrom c (at + l) bs) i 0) s)) (drop-drop l at s)
+    ∙ stmt-at s S c (at + l) (see σ (k .head)) (wider-after (S + 4096) σ w (drop at s) (k .head) (k .good)) (k .tail) (k .on) i x xs (sym (ap (drop (suc i)) (k .is)) ∙ d)

@@ -1,0 +1,125 @@
+// The statements of a trace.
+use expr::File;
+use expr::accept;
+use expr::accept::Checked;
+use expr::number;
+use file::Reading;
+ghost use mathlib.Core.Path.{_≡_};
+ghost use mathlib.Core.Bool.{true};
+ghost use Prim.Native.Nat.{_+_, _≤_, _<_};
+ghost use lib.ListN.{length, drop};
+ghost use Rattle.expr.specs.declared.File.the-variants.{Trace};
+ghost use Rattle.expr.specs.Expr.{readable, parse};
+ghost use Rattle.file.specs.File.{recordOf};
+ghost use Rattle.file.specs.Shown.{replyOf, isGood, exprReply};
+ghost use Rattle.trace.specs.Trace.{stmt};
+ghost use Rattle.trace.specs.Shown.{seen, leastAfter, markedBy, ReadRecords};
+
+// The expression from a place of a record on: 0, or 7.
+fn expr_reply(body: &[u8], from: usize, inputs: usize, assigned: &[bool]) -> u8
+    requires { ⌜ from ≤ length (now body) ⌝ }
+    ensures { λ r. ⌜ r ≡ exprReply (parse Trace (readable inputs (now (assigned .entry))) (drop from (now (body .entry)))) ⌝ }
+{
+    let c = accept::check_expr(&body[from..], File::Trace, inputs, assigned);
+    match c {
+        Checked::Fine => 0,
+        Checked::Broken(_) => 7,
+    }
+}
+
+// A record's bytes after its length: 0, or the reply 5, 6 or 7.
+fn body_reply(body: &[u8], inputs: usize, least: usize, assigned: &[bool]) -> u8
+    requires { ⌜ (0 < length (now body)) × (inputs ≤ 64) ⌝ }
+    ensures { λ r. ⌜ r ≡ replyOf (stmt (inputs + 4096) (seen inputs least (now (assigned .entry))) (now (body .entry))) ⌝ }
+{
+    let kind = body[0];
+    if kind == 1 {
+        if body.len() < 5 {
+            return 5;
+        }
+        let symbol = number::two_at(body, 3);
+        if symbol < least {
+            return 6;
+        }
+        if inputs + 4096 <= symbol {
+            return 6;
+        }
+        return expr_reply(body, 5, inputs, assigned);
+    }
+    if kind == 2 {
+        if body.len() < 3 {
+            return 5;
+        }
+        return expr_reply(body, 3, inputs, assigned);
+    }
+    if kind == 3 {
+        if body.len() < 3 {
+            return 5;
+        }
+        return expr_reply(body, 3, inputs, assigned);
+    }
+    5
+}
+
+// After the statement at a place: marks the symbol that it assigns, and gives the least that may be assigned then.
+fn learn(trace: &[u8], at: usize, inputs: usize, least: usize, assigned: &mut [bool]) -> usize
+    requires { ⌜ (at < 65536) × (inputs ≤ 64) × (length (now assigned) ≡ 4160) × (isGood (recordOf (stmt (inputs + 4096) (seen inputs least (now assigned))) (drop at (now trace))) ≡ true) ⌝ }
+    ensures { λ r. ⌜ (r ≡ leastAfter (recordOf (stmt (inputs + 4096) (seen inputs least (now (assigned .entry)))) (drop at (now (trace .entry)))) least) × (now (assigned .exit) ≡ markedBy (recordOf (stmt (inputs + 4096) (seen inputs least (now (assigned .entry)))) (drop at (now (trace .entry)))) (now (assigned .entry))) ⌝ }
+{
+    if trace[at + 2] == 1 {
+        let symbol = number::two_at(trace, at + 5);
+        assigned[symbol] = true;
+        return symbol + 1;
+    }
+    least
+}
+
+// Reads the records after the header, stores their offsets and marks the symbols that they assign.
+pub fn read_records(
+    trace: &[u8],
+    inputs: usize,
+    n: usize,
+    offsets: &mut [u16],
+    assigned: &mut [bool],
+) -> Reading
+    requires { ⌜ (6 ≤ length (now trace)) × (length (now trace) < 65536) × (inputs ≤ 64) × (n ≤ length (now offsets)) × (length (now assigned) ≡ 4160) ⌝ }
+    ensures { λ r. ⌜ ReadRecords (now (trace .entry)) inputs n (now (offsets .entry)) (now (offsets .exit)) (now (assigned .entry)) (now (assigned .exit)) r ⌝ }
+{
+    let mut at: usize = 6;
+    let mut k: usize = 0;
+    let mut least = inputs;
+    while k < n {
+        let len = file::frame_at(trace, at);
+        if len == 0 {
+            return Reading {
+                reply: 5,
+                offset: at,
+                count: k,
+            };
+        }
+        let reply = body_reply(&trace[at + 2..at + (2 + len)], inputs, least, &*assigned);
+        if reply != 0 {
+            return Reading {
+                reply: reply,
+                offset: at,
+                count: k,
+            };
+        }
+        offsets[k] = at as u16;
+        least = learn(trace, at, inputs, least, &mut *assigned);
+        at += 2 + len;
+        k += 1;
+    }
+    if at == trace.len() {
+        return Reading {
+            reply: 0,
+            offset: 0,
+            count: n,
+        };
+    }
+    Reading {
+        reply: 5,
+        offset: at,
+        count: n,
+    }
+}
