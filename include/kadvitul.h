@@ -1,6 +1,6 @@
 /* Kadvitul: a proved checker for merge rules.
  *
- * A rule is a table of bytes. Every call takes any bytes at all and gives one number of the documented answer; the calls that belong
+ * A rule is a table of bytes, and a trace is a file of bytes too. Every call takes any bytes at all and gives one number of the documented answer; the calls that belong
  * together give the numbers of one and the same answer. Nothing is kept between calls, nothing is allocated, no pointer is kept, and
  * calls may run at the same time on several threads. A pointer may be NULL where its length is 0.
  *
@@ -26,6 +26,13 @@ uint32_t kadvitul_run_offset(const uint8_t *table, size_t table_len, uint64_t bo
 uint32_t kadvitul_run_verdict(const uint8_t *table, size_t table_len, uint64_t bound, const uint8_t *valuation, size_t valuation_len);
 uint32_t kadvitul_run_place(const uint8_t *table, size_t table_len, uint64_t bound, const uint8_t *valuation, size_t valuation_len);
 uint32_t kadvitul_run_back_jumps(const uint8_t *table, size_t table_len, uint64_t bound, const uint8_t *valuation, size_t valuation_len);
+
+/* Judging a trace under a valuation of its inputs: the first Assume or Assert that is false ends it. The verdict is 1 unsafe if that is an
+ * Assert, with the place that the trace gives it, and 0 safe otherwise. */
+uint32_t kadvitul_judge_reply(const uint8_t *trace, size_t trace_len, const uint8_t *valuation, size_t valuation_len);
+uint32_t kadvitul_judge_offset(const uint8_t *trace, size_t trace_len, const uint8_t *valuation, size_t valuation_len);
+uint32_t kadvitul_judge_verdict(const uint8_t *trace, size_t trace_len, const uint8_t *valuation, size_t valuation_len);
+uint32_t kadvitul_judge_place(const uint8_t *trace, size_t trace_len, const uint8_t *valuation, size_t valuation_len);
 
 #ifdef __cplusplus
 }

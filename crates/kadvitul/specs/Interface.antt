@@ -8,9 +8,14 @@ use lib.Dec.{eqb, leb}
 use Rattle.expr.specs.Number.{numberOf}
 use Rattle.file.specs.File.{Input, Accepted, Refused}
 use Rattle.table.specs.declared.Answer.{Answer}
+use Rattle.trace.specs.declared.Answer as Judged
 use Rattle.table.specs.Table.{Instr, readTable}
 use Rattle.table.specs.Run.{run}
 use Rattle.table.specs.Answer.{refusal, answerOf}
+use Rattle.expr.specs.Eval.{envOf}
+use Rattle.trace.specs.Trace.{Stmt, readTrace}
+use Rattle.trace.specs.Judge.{judge}
+use Rattle.trace.specs.Answer as Judging
 
 -- the first c words of a valuation
 abbrev pub wordsOf : (c : ℕ) → List ℕ → List ℕ
@@ -31,3 +36,10 @@ answeredBytes K valuation (Accepted S is) =
 
 unfoldable pub runBytes : (table : List ℕ) (K : ℕ) (valuation : List ℕ) → Answer
 runBytes table K valuation = answeredBytes K valuation (readTable table)
+
+abbrev pub judgedBytes : (valuation : List ℕ) → Input Stmt → Judged.Answer
+judgedBytes valuation (Refused reply offset) = Judging.refusal reply offset
+judgedBytes valuation (Accepted S ts) = cond (eqb (length valuation) (4 * S)) (Judging.answerOf (judge ts (envOf (wordsOf S valuation)))) (Judging.refusal 11 0)
+
+unfoldable pub judgeBytes : (trace valuation : List ℕ) → Judged.Answer
+judgeBytes trace valuation = judgedBytes valuation (readTrace trace)

@@ -16,7 +16,12 @@ use Rattle.file.specs.FileLaws.{header-is, file-is, sets-snoc}
 use Rattle.table.specs.Table.{Instr, instrs, readTable}
 use Rattle.table.specs.Run.{run}
 use Rattle.table.specs.Answer.{refusal, answerOf, answered, runAnswer}
-use Rattle.kadvitul.specs.Interface.{wordsOf, Decoded, answeredBytes, runBytes}
+use Rattle.expr.specs.Eval.{envOf}
+use Rattle.trace.specs.Trace.{Stmt, stmts, readTrace}
+use Rattle.trace.specs.Judge.{judge}
+use Rattle.trace.specs.Answer as Judging
+use Rattle.trace.specs.Answer.{judgeAnswer}
+use Rattle.kadvitul.specs.Interface.{wordsOf, Decoded, answeredBytes, runBytes, judgedBytes, judgeBytes}
 
 pub words-length : (c : ℕ) (bs : List ℕ) → length (wordsOf c bs) ≡ c
 words-length zero bs = refl
@@ -66,6 +71,16 @@ module _ {valuation words : List ℕ} {count : ℕ} (d : Decoded valuation words
           let f = file-is 1 1024 instrs s S is e in
           ap (λ a. cond (leb K 255) a (refusal 8 0))
           (same-words S (omega (arith, header-is 1 1024 s (f .header) .inputs, f .inputs)) (λ ws. answerOf (run is K ws)) (refusal 11 0))
+
+  pub judge-words : (s : List ℕ) → judgeAnswer s (take count words) ≡ judgeBytes s valuation
+  unfolding judgeAnswer judgeBytes readTrace
+  judge-words s = go (readTrace s) refl
+    where
+      go : (x : Input Stmt) → readTrace s ≡ x → Judging.answered (take count words) x ≡ judgedBytes valuation x
+      go (Refused r o) e = refl
+      go (Accepted S ts) e =
+          let f = file-is 129 4096 stmts s S ts e in
+          same-words S (omega (arith, header-is 129 4096 s (f .header) .inputs, f .inputs)) (λ ws. Judging.answerOf (judge ts (envOf ws))) (Judging.refusal 11 0)
 
 -- the words stored at the front of an array
 words-front : (xs : List ℕ) (c : ℕ) (bs : List ℕ) → c ≤ length xs → take c (sets xs 0 (wordsOf c bs)) ≡ wordsOf c bs

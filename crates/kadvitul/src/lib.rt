@@ -1,11 +1,10 @@
 // The C interface: one number of an answer for each call. `include/kadvitul.h` declares it.
 use expr::number;
-use table::Answer;
 ghost use mathlib.Core.Path.{_≡_};
 ghost use Prim.Native.Nat.{_/_, _*_, _≤_};
 ghost use lib.ListN.{length};
 ghost use lib.Seq.{sets};
-ghost use Rattle.kadvitul.specs.Interface.{wordsOf, Decoded, runBytes};
+ghost use Rattle.kadvitul.specs.Interface.{wordsOf, Decoded, runBytes, judgeBytes};
 
 // Stores `count` words of a valuation.
 fn decode(valuation: &[u8], count: usize, words: &mut [u32])
@@ -37,12 +36,20 @@ fn words_in(valuation: &[u8], words: &mut [u32]) -> usize
     count
 }
 
-fn run_bytes(rule: &[u8], bound: u64, valuation: &[u8]) -> Answer
+fn run_bytes(rule: &[u8], bound: u64, valuation: &[u8]) -> table::Answer
     ensures { λ r. ⌜ r ≡ runBytes (now (rule .entry)) bound (now (valuation .entry)) ⌝ }
 {
     let mut words: [u32; 65] = [0; 65];
     let count = words_in(valuation, &mut words);
     table::run(rule, bound, &words[..count])
+}
+
+fn judge_bytes(trace: &[u8], valuation: &[u8]) -> trace::Answer
+    ensures { λ r. ⌜ r ≡ judgeBytes (now (trace .entry)) (now (valuation .entry)) ⌝ }
+{
+    let mut words: [u32; 65] = [0; 65];
+    let count = words_in(valuation, &mut words);
+    trace::judge(trace, &words[..count])
 }
 
 #[no_mangle]
@@ -83,4 +90,36 @@ pub extern "C" fn kadvitul_run_back_jumps(rule: &[u8], bound: u64, valuation: &[
 {
     let a = run_bytes(rule, bound, valuation);
     a.back_jumps
+}
+
+#[no_mangle]
+pub extern "C" fn kadvitul_judge_reply(trace: &[u8], valuation: &[u8]) -> u32
+    ensures { λ r. ⌜ r ≡ (judgeBytes (now (trace .entry)) (now (valuation .entry))) .reply ⌝ }
+{
+    let a = judge_bytes(trace, valuation);
+    a.reply
+}
+
+#[no_mangle]
+pub extern "C" fn kadvitul_judge_offset(trace: &[u8], valuation: &[u8]) -> u32
+    ensures { λ r. ⌜ r ≡ (judgeBytes (now (trace .entry)) (now (valuation .entry))) .offset ⌝ }
+{
+    let a = judge_bytes(trace, valuation);
+    a.offset
+}
+
+#[no_mangle]
+pub extern "C" fn kadvitul_judge_verdict(trace: &[u8], valuation: &[u8]) -> u32
+    ensures { λ r. ⌜ r ≡ (judgeBytes (now (trace .entry)) (now (valuation .entry))) .verdict ⌝ }
+{
+    let a = judge_bytes(trace, valuation);
+    a.verdict
+}
+
+#[no_mangle]
+pub extern "C" fn kadvitul_judge_place(trace: &[u8], valuation: &[u8]) -> u32
+    ensures { λ r. ⌜ r ≡ (judgeBytes (now (trace .entry)) (now (valuation .entry))) .place ⌝ }
+{
+    let a = judge_bytes(trace, valuation);
+    a.place
 }
