@@ -1,198 +1,79 @@
 //! Cases whose answers stand in document 01, or follow from its sentences at a glance.
 
-use crate::case::RunCase;
-use crate::encoding;
-use crate::model::RunAnswer;
+pub mod judging;
+pub mod running;
+pub mod traces;
 
-pub struct KnownRun {
+use std::ops::RangeInclusive;
+
+use crate::case::Case;
+
+pub struct Known<C: Case> {
     pub name: String,
-    pub case: RunCase,
-    pub answer: RunAnswer,
+    pub case: C,
+    pub answer: C::Answer,
 }
 
-/// Document 01, "A small rule, worked".
-pub const SMALL_RULE: [u8; 44] = [
-    0x01, 0x00, 0x2C, 0x01, 0x00, 0x04, // S = 1, n = 4
-    0x00, 0x06, 0x04, 0x00, 0x03, 0x02, 0x00, 0x12, // (0) if x is zero go to 3
-    0x00, 0x0A, 0x01, 0x00, 0x02, 0x00, 0x01, 0x00, 0x00, 0x00, 0x01, 0x21, // (1) x becomes x - 1
-    0x00, 0x08, 0x04, 0x00, 0x00, 0x01, 0x00, 0x00, 0x00, 0x01, // (2) if 1 go to 0
-    0x00, 0x06, 0x03, 0x01, 0x00, 0x00, 0x00, 0x00, // (3) assert 0
-];
+const CONSTANT_1: [u8; 5] = [1, 0, 0, 0, 1];
+const CONSTANT_0: [u8; 5] = [1, 0, 0, 0, 0];
 
-const ONE: [u8; 5] = [1, 0, 0, 0, 1];
-const ASSERT_1: [u8; 6] = [3, 1, 0, 0, 0, 1];
-const ASSERT_0: [u8; 6] = [3, 1, 0, 0, 0, 0];
-const ASSUME_0: [u8; 6] = [2, 1, 0, 0, 0, 0];
-const ASSERT_SYMBOL_0: [u8; 3] = [3, 2, 0];
-
-/// Document 01, "Unmarked": S = 1 and 1,024 Asserts of symbol 0.
-pub fn thousand_asserts() -> Vec<u8> {
-    encoding::table(1, &[ASSERT_SYMBOL_0; 1024])
-}
-
-/// The marked cases that concern running.
-pub fn marked() -> Vec<KnownRun> {
-    vec![
-        small_rule("m1: x=0, K=0", 0, 0, unsafe_at(3, 0)),
-        small_rule("m2: x=1, K=0", 1, 0, safe(0)),
-        small_rule("m3: x=1, K=1", 1, 1, unsafe_at(8, 1)),
-        small_rule("m4: x=2, K=1", 2, 1, safe(1)),
-        operator("m6: 0 sub 1", 0, 0x21, 1, 4294967295),
-        operator("m7: 65536 mul 65536", 65536, 0x22, 65536, 0),
-        operator("m8: 7 udiv 0", 7, 0x23, 0, 4294967295),
-        operator("m8: 7 urem 0", 7, 0x24, 0, 0),
-        operator("m9: 1 shl 31", 1, 0x28, 31, 2147483648),
-        operator("m9: 1 shl 32", 1, 0x28, 32, 0),
-        operator("m10: 2147483648 slt 0", 2147483648, 0x2C, 0, 1),
-        operator("m10: 2147483648 ult 0", 2147483648, 0x2B, 0, 0),
-        known("m11: no instructions", [1, 0, 6, 0, 0, 0], 0, [], safe(0)),
+/// For each marked operator, a test that it gives what document 01 says.
+fn marked_operators() -> [(&'static str, Vec<u8>); 8] {
+    [
+        ("m6: 0 sub 1", equality(0, 0x21, 1, 4294967295)),
+        ("m7: 65536 mul 65536", equality(65536, 0x22, 65536, 0)),
+        ("m8: 7 udiv 0", equality(7, 0x23, 0, 4294967295)),
+        ("m8: 7 urem 0", equality(7, 0x24, 0, 0)),
+        ("m9: 1 shl 31", equality(1, 0x28, 31, 2147483648)),
+        ("m9: 1 shl 32", equality(1, 0x28, 32, 0)),
+        ("m10: 2147483648 slt 0", equality(2147483648, 0x2C, 0, 1)),
+        ("m10: 2147483648 ult 0", equality(2147483648, 0x2B, 0, 0)),
     ]
 }
 
-/// The limits that document 01 names without a mark.
-pub fn limits() -> Vec<KnownRun> {
-    let thousand = |name, x, answer| known(name, thousand_asserts(), 0, [0, 0, 0, x], answer);
-    let one_too_many = encoding::table(1, &[ASSERT_SYMBOL_0; 1025]);
-    let inputs = |count| encoding::table(count, &[ASSERT_1]);
-    let deep = |depth| encoding::table(0, &[assert_ones(depth)]);
-    vec![
-        thousand("1,024 instructions, x=1", 1, safe(0)),
-        thousand("1,024 instructions, x=0", 0, unsafe_at(0, 0)),
-        known("1,025 instructions", one_too_many, 0, [0; 4], refused(4, 0)),
-        known("S=64", inputs(64), 0, [0; 4 * 64], safe(0)),
-        known("S=65", inputs(65), 0, [0; 4 * 65], refused(4, 0)),
-        small_rule("K=255, x=255", 255, 255, unsafe_at(255 * 5 + 3, 255)),
-        small_rule("K=255, x=256", 256, 255, safe(255)),
-        small_rule("K=256", 0, 256, refused(8, 0)),
-        small_rule("K=2^32", 0, 1 << 32, refused(8, 0)),
-        known("16 words of depth", deep(16), 0, [], safe(0)),
-        known("17 words of depth", deep(17), 0, [], refused(7, 6)),
-    ]
-}
-
-/// Sentences on running a table.
-pub fn runs() -> Vec<KnownRun> {
-    let jump = |target, condition| [4, 0, target, 1, 0, 0, 0, condition];
-    vec![
-        run("the first false Assert counts", &[&ASSERT_1, &ASSERT_0, &ASSERT_0], 0, unsafe_at(1, 0)),
-        run("a false Assume ends the run safe", &[&ASSUME_0, &ASSERT_0], 0, safe(0)),
-        run("an Assume excuses no Assert before it", &[&ASSERT_0, &ASSUME_0], 0, unsafe_at(0, 0)),
-        run("a jump to itself is a back jump", &[&jump(0, 1)], 2, safe(2)),
-        run("a back jump past the bound ends the run", &[&jump(0, 1), &ASSERT_0], 0, safe(0)),
-        run("a false back jump goes on at the bound", &[&jump(0, 0), &ASSERT_0], 0, unsafe_at(1, 0)),
-        run("a forward jump needs no bound", &[&jump(2, 1), &ASSERT_0, &ASSERT_0], 0, unsafe_at(2, 0)),
-        run("target n ends the run", &[&jump(2, 1), &ASSERT_0], 0, safe(0)),
-        run("any word but 0 is true", &[&jump(2, 255), &ASSERT_0], 0, safe(0)),
-    ]
-}
-
-/// Sentences on the order and the offsets of refusals. Most records here have no expression, so that a 7 is due too.
-pub fn refusals() -> Vec<KnownRun> {
-    vec![
-        read("no byte", &[], refused(1, 0)),
-        read("5 bytes, version wrong", &[2, 0, 5, 0, 0], refused(1, 0)),
-        read("version and length wrong", &[2, 0, 5, 0, 0, 0], refused(2, 0)),
-        read("length and S wrong", &[1, 0, 7, 65, 0, 0], refused(3, 0)),
-        read("S wrong, record missing", &[1, 0, 6, 65, 0, 1], refused(4, 0)),
-        read("record due at the very end", &[1, 0, 6, 0, 0, 1], refused(5, 6)),
-        read("half a record length", &[1, 0, 7, 0, 0, 1, 0], refused(5, 6)),
-        read("record length 0", &[1, 0, 8, 0, 0, 1, 0, 0], refused(5, 6)),
-        read("record passing the end", &[1, 0, 9, 0, 0, 1, 0, 2, 3], refused(5, 6)),
-        read("unknown kind 0", &[1, 0, 9, 0, 0, 1, 0, 1, 0], refused(5, 6)),
-        read("unknown kind 5", &[1, 0, 9, 0, 0, 1, 0, 1, 5], refused(5, 6)),
-        read("Assign without its symbol", &[1, 0, 9, 1, 0, 1, 0, 1, 1], refused(5, 6)),
-        read("half a target", &[1, 0, 10, 0, 0, 1, 0, 2, 4, 0], refused(5, 6)),
-        read("spare byte", &[1, 0, 7, 0, 0, 0, 0], refused(5, 6)),
-        read("6 before 7: symbol S", &[1, 0, 10, 1, 0, 1, 0, 2, 1, 1], refused(6, 6)),
-        read("6 before 7: target n + 1", &[1, 0, 11, 0, 0, 1, 0, 3, 4, 0, 2], refused(6, 6)),
-        read("7 alone: symbol S - 1", &[1, 0, 10, 1, 0, 1, 0, 2, 1, 0], refused(7, 6)),
-        read("7 alone: target n", &[1, 0, 11, 0, 0, 1, 0, 3, 4, 0, 1], refused(7, 6)),
-        read("7 before a later 5", &[1, 0, 12, 0, 0, 2, 0, 1, 3, 0, 1, 9], refused(7, 6)),
-        read("7 before spare bytes", &[1, 0, 10, 0, 0, 1, 0, 1, 3, 0], refused(7, 6)),
-        read("7 in the second record", &[1, 0, 15, 1, 0, 2, 0, 4, 3, 2, 0, 16, 0, 1, 3], refused(7, 12)),
-        read("a trace's symbol", &[1, 0, 12, 1, 0, 1, 0, 4, 3, 3, 0, 0], refused(7, 6)),
-        known("7 before 8 and 11", [1, 0, 9, 1, 0, 1, 0, 1, 3], 256, [], refused(7, 6)),
-        known("8 before 11", SMALL_RULE, 256, [], refused(8, 0)),
-        known("no valuation", SMALL_RULE, 0, [], refused(11, 0)),
-        known("S bytes of valuation", SMALL_RULE, 0, [0; 1], refused(11, 0)),
-        known("a byte too many of valuation", SMALL_RULE, 0, [0; 5], refused(11, 0)),
-        known("a word too many of valuation", SMALL_RULE, 0, [0; 8], refused(11, 0)),
-    ]
-}
-
-/// Kinds that no table has, before fields of any length and an expression.
-pub fn unknown_kinds() -> Vec<KnownRun> {
-    let kinds = (0..=255).filter(|kind| !matches!(kind, 1..=4));
-    kinds.flat_map(|kind| (0..=4).map(move |fields| unknown_kind(kind, fields))).collect()
-}
-
-fn unknown_kind(kind: u8, fields: usize) -> KnownRun {
-    let record = [&[kind][..], &vec![0; fields], &ONE].concat();
-    run(&format!("kind {kind} with {fields} bytes of fields"), &[&record], 0, refused(5, 6))
-}
-
-/// Bytes that are no token of a table, behind any number of words that an operator pops and before any operand.
-pub fn unknown_tokens() -> Vec<KnownRun> {
-    let tokens = (0..=255).filter(|token| !matches!(token, 0x01 | 0x02 | 0x10..=0x12 | 0x20..=0x2D | 0x30));
-    let shapes = (0..=3).flat_map(|words| (0..=4).map(move |operands| (words, operands)));
-    tokens.flat_map(|token| shapes.clone().map(move |shape| unknown_token(token, shape))).collect()
-}
-
-fn unknown_token(token: u8, (words, operands): (usize, usize)) -> KnownRun {
-    let record = [&[3][..], &ONE.repeat(words), &[token], &vec![0; operands]].concat();
-    run(&format!("token {token} behind {words} words, before {operands} bytes"), &[&record], 0, refused(7, 6))
-}
-
-fn small_rule(name: &str, x: u32, bound: u64, answer: RunAnswer) -> KnownRun {
-    known(name, SMALL_RULE, bound, x.to_be_bytes(), answer)
-}
-
-/// Asserts the result, then its contrary: only the second may fail.
-fn operator(name: &str, a: u32, operator: u8, b: u32, result: u32) -> KnownRun {
+fn equality(a: u32, operator: u8, b: u32, result: u32) -> Vec<u8> {
     const EQUAL: u8 = 0x2A;
-    const ZERO: u8 = 0x12;
-    let mut assert = vec![3];
+    let mut test = Vec::new();
     for (word, token) in [(a, None), (b, Some(operator)), (result, Some(EQUAL))] {
-        assert.push(0x01);
-        assert.extend(word.to_be_bytes());
-        assert.extend(token);
+        test.push(0x01);
+        test.extend(word.to_be_bytes());
+        test.extend(token);
     }
-    let contrary = [&assert[..], &[ZERO]].concat();
-    run(name, &[&assert, &contrary], 0, unsafe_at(1, 0))
+    test
 }
 
-fn assert_ones(depth: usize) -> Vec<u8> {
+fn contrary(test: &[u8]) -> Vec<u8> {
+    const ZERO: u8 = 0x12;
+    [test, &[ZERO]].concat()
+}
+
+/// An expression that holds `depth` words at most and leaves 1.
+fn ones(depth: usize) -> Vec<u8> {
     const AND: u8 = 0x25;
-    [&[3], &ONE.repeat(depth)[..], &vec![AND; depth - 1]].concat()
+    [CONSTANT_1.repeat(depth), vec![AND; depth - 1]].concat()
 }
 
-fn run(name: &str, records: &[&[u8]], bound: u64, answer: RunAnswer) -> KnownRun {
-    known(name, encoding::table(0, records), bound, [], answer)
+/// Records of every other kind than the known ones, with fields of any length and an expression.
+fn unknown_kinds(known: RangeInclusive<u8>) -> impl Iterator<Item = (String, Vec<u8>)> {
+    let kinds = (0..=255).filter(move |kind| !known.contains(kind));
+    kinds.flat_map(|kind| (0..=4).map(move |fields| unknown_kind(kind, fields)))
 }
 
-fn read(name: &str, table: &[u8], answer: RunAnswer) -> KnownRun {
-    known(name, table, 0, [], answer)
+fn unknown_kind(kind: u8, fields: usize) -> (String, Vec<u8>) {
+    let record = [&[kind][..], &vec![0; fields], &CONSTANT_1].concat();
+    (format!("kind {kind} with {fields} bytes of fields"), record)
 }
 
-fn known(
-    name: &str,
-    table: impl Into<Vec<u8>>,
-    bound: u64,
-    valuation: impl Into<Vec<u8>>,
-    answer: RunAnswer,
-) -> KnownRun {
-    let case = RunCase { table: table.into(), bound, valuation: valuation.into() };
-    KnownRun { name: name.into(), case, answer }
+/// Expressions with a byte that is no token of a file with this symbol token, behind any number of words that an
+/// operator pops and before any operand.
+fn unknown_tokens(symbol: u8) -> impl Iterator<Item = (String, Vec<u8>)> {
+    let is_known = move |token| token == symbol || matches!(token, 0x01 | 0x10..=0x12 | 0x20..=0x2D | 0x30);
+    let tokens = (0..=255).filter(move |&token| !is_known(token));
+    let shapes = (0..=3).flat_map(|words| (0..=4).map(move |operands| (words, operands)));
+    tokens.flat_map(move |token| shapes.clone().map(move |shape| unknown_token(token, shape)))
 }
 
-fn safe(back_jumps: u32) -> RunAnswer {
-    RunAnswer { back_jumps, ..RunAnswer::default() }
-}
-
-fn unsafe_at(place: u32, back_jumps: u32) -> RunAnswer {
-    RunAnswer { verdict: 1, place, back_jumps, ..RunAnswer::default() }
-}
-
-fn refused(reply: u32, offset: u32) -> RunAnswer {
-    RunAnswer { reply, offset, ..RunAnswer::default() }
+fn unknown_token(token: u8, (words, operands): (usize, usize)) -> (String, Vec<u8>) {
+    let expression = [&CONSTANT_1.repeat(words)[..], &[token], &vec![0; operands]].concat();
+    (format!("token {token} behind {words} words, before {operands} bytes"), expression)
 }

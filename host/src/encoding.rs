@@ -1,8 +1,62 @@
-//! Document 01, "Table and trace bytes": laying out a table, right or wrong, from its records.
+//! Document 01, "Table and trace bytes": laying out tables and traces, right or wrong, from their records.
 
-/// A table of records, each given without its length. Numbers too large for their field are cut to it.
+/// What tells tables and traces apart.
+#[derive(Clone, Copy, PartialEq, Eq)]
+pub enum Form {
+    Table,
+    Trace,
+}
+
+impl Form {
+    pub fn other(self) -> Form {
+        match self {
+            Form::Table => Form::Trace,
+            Form::Trace => Form::Table,
+        }
+    }
+
+    pub fn version(self) -> u8 {
+        match self {
+            Form::Table => 1,
+            Form::Trace => 129,
+        }
+    }
+
+    pub fn count_limit(self) -> u16 {
+        match self {
+            Form::Table => 1024,
+            Form::Trace => 4096,
+        }
+    }
+
+    pub fn depth_limit(self) -> usize {
+        match self {
+            Form::Table => 16,
+            Form::Trace => 17,
+        }
+    }
+
+    /// The token that reads a symbol.
+    pub fn symbol(self, number: u16) -> Vec<u8> {
+        let [high, low] = number.to_be_bytes();
+        match self {
+            Form::Table => vec![0x02, low],
+            Form::Trace => vec![0x03, high, low],
+        }
+    }
+}
+
 pub fn table<R: AsRef<[u8]>>(inputs: u8, records: &[R]) -> Vec<u8> {
-    let mut bytes = vec![1, 0, 0, inputs, 0, 0];
+    file(Form::Table.version(), inputs, records)
+}
+
+pub fn trace<R: AsRef<[u8]>>(inputs: u8, records: &[R]) -> Vec<u8> {
+    file(Form::Trace.version(), inputs, records)
+}
+
+/// A file of records, each given without its length. Numbers too large for their field are cut to it.
+pub fn file<R: AsRef<[u8]>>(version: u8, inputs: u8, records: &[R]) -> Vec<u8> {
+    let mut bytes = vec![version, 0, 0, inputs, 0, 0];
     for record in records {
         let record = record.as_ref();
         bytes.extend((record.len() as u16).to_be_bytes());
@@ -13,16 +67,16 @@ pub fn table<R: AsRef<[u8]>>(inputs: u8, records: &[R]) -> Vec<u8> {
     bytes
 }
 
-pub fn set_count(table: &mut [u8], count: u16) {
-    table[4..6].copy_from_slice(&count.to_be_bytes());
+pub fn set_count(file: &mut [u8], count: u16) {
+    file[4..6].copy_from_slice(&count.to_be_bytes());
 }
 
-pub fn set_length(table: &mut [u8], length: u16) {
-    table[1..3].copy_from_slice(&length.to_be_bytes());
+pub fn set_length(file: &mut [u8], length: u16) {
+    file[1..3].copy_from_slice(&length.to_be_bytes());
 }
 
-pub fn mend_length(table: &mut [u8]) {
-    set_length(table, table.len() as u16);
+pub fn mend_length(file: &mut [u8]) {
+    set_length(file, file.len() as u16);
 }
 
 pub fn valuation(words: &[u32]) -> Vec<u8> {

@@ -1,12 +1,17 @@
-//! Seeded cases of running: one number gives one case, on every machine.
+//! Seeded cases of running and judging: one number gives one case, on every machine.
 
+pub mod random;
+
+mod author;
+mod draft;
 mod expressions;
 mod faults;
-mod random;
 mod rules;
+mod traces;
 
-use crate::case::RunCase;
+use crate::case::{JudgeCase, RunCase};
 use crate::encoding;
+use draft::Draft;
 use random::Random;
 
 /// Runs of tables longer than this get small bounds, for the time they take.
@@ -16,8 +21,24 @@ pub fn run_case(seed: u64) -> RunCase {
     let mut random = Random::new(seed);
     let rule = rules::rule(&mut random);
     let inputs = rule.inputs;
-    let table = if random.percent(40) { faults::damaged(&mut random, rule) } else { rule.encode() };
+    let table = lay_out(&mut random, rule);
     RunCase { bound: bound(&mut random, table.len()), valuation: valuation(&mut random, inputs.into()), table }
+}
+
+pub fn judge_case(seed: u64) -> JudgeCase {
+    let mut random = Random::new(seed);
+    let trace = traces::trace(&mut random);
+    let inputs = trace.inputs;
+    let trace = lay_out(&mut random, trace);
+    JudgeCase { valuation: valuation(&mut random, inputs.into()), trace }
+}
+
+/// Damaged or not.
+fn lay_out(random: &mut Random, draft: Draft) -> Vec<u8> {
+    if random.percent(40) {
+        return faults::damaged(random, draft);
+    }
+    draft.encode()
 }
 
 fn bound(random: &mut Random, table_length: usize) -> u64 {

@@ -5,5 +5,8 @@ pub mod case;
 pub mod cases;
 pub mod encoding;
 pub mod generate;
+pub mod hold;
 pub mod model;
+pub mod parts;
 pub mod shrink;
+pub mod statement;

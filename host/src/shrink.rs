@@ -1,31 +1,29 @@
-//! Makes a failing case smaller as long as it fails: fewer records, bytes, back jumps and inputs, smaller words.
-
-mod parts;
+//! Makes a failing case smaller as long as it fails: fewer records, bytes, back jumps and inputs, smaller numbers.
 
 use std::iter;
 use std::time::{Duration, Instant};
 
-use crate::case::RunCase;
-use parts::Parts;
+use crate::case::Case;
+use crate::parts::Parts;
 
-/// A long table may not become as small as it could within this time.
+/// A long file may not become as small as it could within this time.
 const TIME: Duration = Duration::from_secs(5);
 /// A constant and a binary operator: pieces up to this length are tried at every place.
 const SMALL_PIECE: usize = 6;
 
-pub fn shrink(case: RunCase, fails: impl Fn(&RunCase) -> bool) -> RunCase {
+pub fn shrink<C: Case>(case: C, fails: impl Fn(&C) -> bool) -> C {
     let mut search = Search { best: case, fails, deadline: Instant::now() + TIME };
     while search.pass() {}
     search.best
 }
 
-struct Search<F> {
-    best: RunCase,
+struct Search<C, F> {
+    best: C,
     fails: F,
     deadline: Instant,
 }
 
-impl<F: Fn(&RunCase) -> bool> Search<F> {
+impl<C: Case, F: Fn(&C) -> bool> Search<C, F> {
     /// Whether anything became smaller.
     fn pass(&mut self) -> bool {
         self.lower_bound()
@@ -35,12 +33,15 @@ impl<F: Fn(&RunCase) -> bool> Search<F> {
             || self.drop_input()
             || self.shorten_valuation()
             || self.lower_words()
+            || self.lower_bytes()
     }
 
-    fn attempt(&mut self, case: RunCase) -> bool {
+    fn attempt(&mut self, edit: impl FnOnce(&mut C)) -> bool {
         if Instant::now() > self.deadline {
             return false;
         }
+        let mut case = self.best.clone();
+        edit(&mut case);
         let fails = (self.fails)(&case);
         if fails {
             self.best = case;
@@ -48,89 +49,106 @@ impl<F: Fn(&RunCase) -> bool> Search<F> {
         fails
     }
 
-    fn attempt_table(&mut self, parts: &Parts) -> bool {
-        let table = parts.join();
-        self.attempt(RunCase { table, ..self.best.clone() })
-    }
-
-    fn lower_bound(&mut self) -> bool {
-        let bound = self.best.bound;
-        let lower = [0, bound / 2, bound.saturating_sub(1)];
-        lower.into_iter().any(|lower| lower < bound && self.attempt(RunCase { bound: lower, ..self.best.clone() }))
-    }
-
-    fn drop_records(&mut self) -> bool {
-        let Some(parts) = Parts::of(&self.best.table) else {
-            return false;
-        };
-        pieces(parts.records.len()).any(|(start, end)| {
-            let mut fewer = parts.clone();
-            fewer.drop_records(start, end);
-            self.attempt_table(&fewer)
+    fn attempt_parts(&mut self, parts: &Parts, edit: impl FnOnce(&mut Parts)) -> bool {
+        self.attempt(|case| {
+            let mut parts = parts.clone();
+            edit(&mut parts);
+            *case.file_mut() = parts.join();
         })
     }
 
+    fn lower_bound(&mut self) -> bool {
+        let Some(&mut bound) = self.best.bound_mut() else {
+            return false;
+        };
+        lower_numbers(bound).any(|lower| self.attempt_bound(lower))
+    }
+
+    fn attempt_bound(&mut self, lower: u64) -> bool {
+        self.attempt(|case| {
+            if let Some(bound) = case.bound_mut() {
+                *bound = lower;
+            }
+        })
+    }
+
+    fn drop_records(&mut self) -> bool {
+        let Some(parts) = Parts::of(self.best.file_mut()) else {
+            return false;
+        };
+        pieces(parts.records.len())
+            .any(|(start, end)| self.attempt_parts(&parts, |parts| parts.drop_records(start, end)))
+    }
+
     fn shorten_records(&mut self) -> bool {
-        let Some(parts) = Parts::of(&self.best.table) else {
+        let Some(parts) = Parts::of(self.best.file_mut()) else {
             return false;
         };
         (0..parts.records.len()).any(|i| {
-            pieces(parts.records[i].len()).any(|(start, end)| {
-                let mut shorter = parts.clone();
-                shorter.records[i].drain(start..end);
-                self.attempt_table(&shorter)
-            })
+            pieces(parts.records[i].len())
+                .any(|(start, end)| self.attempt_parts(&parts, |parts| drop(parts.records[i].drain(start..end))))
         })
     }
 
     fn shorten_rest(&mut self) -> bool {
-        let Some(parts) = Parts::of(&self.best.table) else {
+        let Some(parts) = Parts::of(self.best.file_mut()) else {
             return false;
         };
-        pieces(parts.rest.len()).any(|(start, end)| {
-            let mut shorter = parts.clone();
-            shorter.rest.drain(start..end);
-            self.attempt_table(&shorter)
-        })
+        pieces(parts.rest.len())
+            .any(|(start, end)| self.attempt_parts(&parts, |parts| drop(parts.rest.drain(start..end))))
     }
 
     fn drop_input(&mut self) -> bool {
-        let Some(mut parts) = Parts::of(&self.best.table) else {
+        let Some(mut parts) = Parts::of(self.best.file_mut()) else {
             return false;
         };
         let Some(inputs) = parts.inputs.checked_sub(1) else {
             return false;
         };
         parts.inputs = inputs;
-        let mut case = self.best.clone();
-        case.table = parts.join();
-        case.valuation.truncate(case.valuation.len().saturating_sub(4));
-        self.attempt(case)
-    }
-
-    fn shorten_valuation(&mut self) -> bool {
-        pieces(self.best.valuation.len()).any(|(start, end)| {
-            let mut case = self.best.clone();
-            case.valuation.drain(start..end);
-            self.attempt(case)
+        self.attempt(|case| {
+            *case.file_mut() = parts.join();
+            let valuation = case.valuation_mut();
+            valuation.truncate(valuation.len().saturating_sub(4));
         })
     }
 
+    fn shorten_valuation(&mut self) -> bool {
+        let length = self.best.valuation_mut().len();
+        pieces(length).any(|(start, end)| self.attempt(|case| drop(case.valuation_mut().drain(start..end))))
+    }
+
     fn lower_words(&mut self) -> bool {
-        let words = self.best.valuation.len() / 4;
+        let words = self.best.valuation_mut().len() / 4;
         (0..words).any(|i| self.lower_word(4 * i))
     }
 
     fn lower_word(&mut self, start: usize) -> bool {
-        let mut case = self.best.clone();
-        let bytes = &mut case.valuation[start..start + 4];
+        let bytes = &self.best.valuation_mut()[start..start + 4];
         let word = u32::from_be_bytes([bytes[0], bytes[1], bytes[2], bytes[3]]);
         if word == 0 {
             return false;
         }
-        bytes.copy_from_slice(&(word / 2).to_be_bytes());
-        self.attempt(case)
+        let lower = (word / 2).to_be_bytes();
+        self.attempt(|case| case.valuation_mut()[start..start + 4].copy_from_slice(&lower))
     }
+
+    /// Lowers targets, places, symbols and constants byte by byte.
+    fn lower_bytes(&mut self) -> bool {
+        let Some(parts) = Parts::of(self.best.file_mut()) else {
+            return false;
+        };
+        (0..parts.records.len()).any(|i| (0..parts.records[i].len()).any(|k| self.lower_byte(&parts, i, k)))
+    }
+
+    fn lower_byte(&mut self, parts: &Parts, i: usize, k: usize) -> bool {
+        lower_numbers(parts.records[i][k].into())
+            .any(|lower| self.attempt_parts(parts, |parts| parts.records[i][k] = lower as u8))
+    }
+}
+
+fn lower_numbers(number: u64) -> impl Iterator<Item = u64> {
+    [0, number / 2, number.saturating_sub(1)].into_iter().filter(move |&lower| lower < number)
 }
 
 /// The ranges of `length` things to try without, large ones first.

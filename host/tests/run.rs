@@ -1,17 +1,10 @@
 //! Running a table: document 01's cases, and the archive against the model on generated ones.
-//!
-//! CASES sets how many are generated and SEED where they begin.
 
-use std::collections::BTreeMap;
-use std::env;
-
-use host::case::RunCase;
-use host::cases::{self, KnownRun};
+use host::case::{Case, RunCase};
+use host::cases::running as cases;
+use host::generate;
+use host::hold::{hold_archive_to_model, hold_features, hold_known};
 use host::model::RunAnswer;
-use host::shrink::shrink;
-use host::{archive, generate, model};
-
-type Run = fn(&[u8], u64, &[u8]) -> RunAnswer;
 
 /// What generated cases have to show, one in so many.
 const DUE: [(&str, u64); 21] = [
@@ -40,62 +33,62 @@ const DUE: [(&str, u64); 21] = [
 
 #[test]
 fn the_marked_cases_hold_in_the_model() {
-    hold(model::run, cases::marked());
+    hold_known(RunCase::model, cases::marked());
 }
 
 #[test]
 fn the_marked_cases_hold_in_the_archive() {
-    hold(archive::run, cases::marked());
+    hold_known(RunCase::archive, cases::marked());
 }
 
 #[test]
 fn the_limits_hold_in_the_model() {
-    hold(model::run, cases::limits());
+    hold_known(RunCase::model, cases::limits());
 }
 
 #[test]
 fn the_limits_hold_in_the_archive() {
-    hold(archive::run, cases::limits());
+    hold_known(RunCase::archive, cases::limits());
 }
 
 #[test]
 fn the_sentences_on_running_hold_in_the_model() {
-    hold(model::run, cases::runs());
+    hold_known(RunCase::model, cases::runs());
 }
 
 #[test]
 fn the_sentences_on_running_hold_in_the_archive() {
-    hold(archive::run, cases::runs());
+    hold_known(RunCase::archive, cases::runs());
 }
 
 #[test]
 fn the_sentences_on_refusals_hold_in_the_model() {
-    hold(model::run, cases::refusals());
+    hold_known(RunCase::model, cases::refusals());
 }
 
 #[test]
 fn the_sentences_on_refusals_hold_in_the_archive() {
-    hold(archive::run, cases::refusals());
+    hold_known(RunCase::archive, cases::refusals());
 }
 
 #[test]
 fn every_unknown_kind_is_refused_5_by_the_model() {
-    hold(model::run, cases::unknown_kinds());
+    hold_known(RunCase::model, cases::unknown_kinds());
 }
 
 #[test]
 fn every_unknown_kind_is_refused_5_by_the_archive() {
-    hold(archive::run, cases::unknown_kinds());
+    hold_known(RunCase::archive, cases::unknown_kinds());
 }
 
 #[test]
 fn every_unknown_token_is_refused_7_by_the_model() {
-    hold(model::run, cases::unknown_tokens());
+    hold_known(RunCase::model, cases::unknown_tokens());
 }
 
 #[test]
 fn every_unknown_token_is_refused_7_by_the_archive() {
-    hold(archive::run, cases::unknown_tokens());
+    hold_known(RunCase::archive, cases::unknown_tokens());
 }
 
 #[test]
@@ -105,68 +98,12 @@ fn a_table_of_1024_asserts_has_5126_bytes() {
 
 #[test]
 fn the_generated_cases_reach_every_reply_both_verdicts_and_later_copies() {
-    let mut hits = BTreeMap::new();
-    for seed in seeds() {
-        let case = generate::run_case(seed);
-        for feature in features(&case, ask(model::run, &case)) {
-            *hits.entry(feature).or_insert(0) += 1;
-        }
-    }
-    println!("{hits:#?}");
-    for (feature, rarity) in DUE {
-        let least = case_count() / rarity;
-        let count = hits.get(feature).copied().unwrap_or(0);
-        assert!(count >= least, "{feature}: {count} cases, fewer than {least}");
-    }
+    hold_features(generate::run_case, features, &DUE);
 }
 
 #[test]
 fn the_archive_gives_the_models_answer_on_every_case() {
-    for seed in seeds() {
-        let case = generate::run_case(seed);
-        if differs(&case) {
-            panic!("{}", report(seed, case));
-        }
-    }
-}
-
-fn hold(run: Run, known: Vec<KnownRun>) {
-    for KnownRun { name, case, answer } in known {
-        assert_eq!(ask(run, &case), answer, "{name}\n{case}");
-    }
-}
-
-fn ask(run: Run, case: &RunCase) -> RunAnswer {
-    run(&case.table, case.bound, &case.valuation)
-}
-
-fn differs(case: &RunCase) -> bool {
-    ask(archive::run, case) != ask(model::run, case)
-}
-
-fn report(seed: u64, case: RunCase) -> String {
-    let small = shrink(case, differs);
-    format!(
-        "seed {seed} gives a case where archive and model differ; made smaller:\n{small}\narchive: {:?}\nmodel:   {:?}",
-        ask(archive::run, &small),
-        ask(model::run, &small),
-    )
-}
-
-fn seeds() -> impl Iterator<Item = u64> {
-    let first = number("SEED", 1);
-    (0..case_count()).map(move |i| first.wrapping_add(i))
-}
-
-fn case_count() -> u64 {
-    number("CASES", 50_000)
-}
-
-fn number(variable: &str, default: u64) -> u64 {
-    match env::var(variable) {
-        Ok(text) => text.parse().unwrap_or_else(|_| panic!("{variable} is not a number: {text}")),
-        Err(_) => default,
-    }
+    hold_archive_to_model(generate::run_case);
 }
 
 /// What a case shows, in the words of `DUE`.

@@ -3,5 +3,6 @@ pub mod Trace
 pub mod TraceLaws
 pub mod Judge
 pub mod Answer
+pub mod Cases
 -- What the code's values mean in these terms.
 pub mod Shown

@@ -1,37 +1,56 @@
-//! Running in the archive against running in the model: one call each, best of several.
+//! The archive against the model: one call each, best of several.
 
 use std::hint::black_box;
 use std::time::Instant;
 
-use host::case::RunCase;
-use host::{archive, cases, encoding, model};
+use host::case::{JudgeCase, RunCase};
+use host::cases::{running, traces};
+use host::encoding::{self, Form};
+use host::{archive, model, statement};
 
 const SAMPLES: usize = 15;
 const SAMPLE_MICROSECONDS: f64 = 20_000.0;
 
 fn main() {
-    compare("the small rule, K=255", small_rule());
-    compare("1,024 instructions", thousand_asserts());
-    compare("deep expressions in a loop", deep_loop());
-    compare("refused in the last record", refused_late());
+    run("the small rule, K=255", small_rule());
+    run("1,024 instructions", thousand_asserts());
+    run("deep expressions in a loop", deep_loop());
+    run("refused in the last record", refused_table());
+    judge("the small rule, K=0", small_trace());
+    judge("deep expressions", deep_statements());
+    judge("refused in the last record", refused_trace());
 }
 
-fn compare(name: &str, RunCase { table, bound, valuation }: RunCase) {
-    let archive = || archive::run_verdict(black_box(&table), bound, black_box(&valuation));
-    let model = || model::run(black_box(&table), bound, black_box(&valuation));
-    let calls = calls_per_sample(model);
+fn run(name: &str, RunCase { table, bound, valuation }: RunCase) {
+    compare(
+        &format!("run, {name}"),
+        || archive::run_verdict(black_box(&table), bound, black_box(&valuation)),
+        || model::run(black_box(&table), bound, black_box(&valuation)),
+    );
+}
+
+fn judge(name: &str, JudgeCase { trace, valuation }: JudgeCase) {
+    compare(
+        &format!("judge, {name}"),
+        || archive::judge_verdict(black_box(&trace), black_box(&valuation)),
+        || model::judge(black_box(&trace), black_box(&valuation)),
+    );
+}
+
+fn compare<A, M>(name: &str, archive: impl Fn() -> A, model: impl Fn() -> M) {
+    let calls = calls_per_sample(&model);
     let (mut archive_best, mut model_best) = (f64::MAX, f64::MAX);
     for _ in 0..SAMPLES {
-        archive_best = archive_best.min(microseconds(calls, archive));
-        model_best = model_best.min(microseconds(calls, model));
+        archive_best = archive_best.min(microseconds(calls, &archive));
+        model_best = model_best.min(microseconds(calls, &model));
     }
     let ratio = archive_best / model_best;
-    println!("run, {name:<27} archive {archive_best:9.2} us  model {model_best:9.2} us  ratio {ratio:5.2}");
+    println!("{name:<34} archive {archive_best:9.2} us  model {model_best:9.2} us  ratio {ratio:5.2}");
 }
 
-fn calls_per_sample<T>(call: impl Fn() -> T + Copy) -> u32 {
+fn calls_per_sample<T>(call: impl Fn() -> T) -> u32 {
     let mut calls = 1;
-    while microseconds(calls, call) * f64::from(calls) < SAMPLE_MICROSECONDS {
+    while microseconds(calls, &call) * f64::from(calls) < SAMPLE_MICROSECONDS {
         calls *= 2;
     }
     calls
@@ -47,11 +66,11 @@ fn microseconds<T>(calls: u32, call: impl Fn() -> T) -> f64 {
 }
 
 fn small_rule() -> RunCase {
-    RunCase { table: cases::SMALL_RULE.to_vec(), bound: 255, valuation: encoding::valuation(&[1_000_000]) }
+    RunCase { table: running::SMALL_RULE.to_vec(), bound: 255, valuation: encoding::valuation(&[1_000_000]) }
 }
 
 fn thousand_asserts() -> RunCase {
-    RunCase { table: cases::thousand_asserts(), bound: 0, valuation: encoding::valuation(&[1]) }
+    RunCase { table: running::thousand_asserts(), bound: 0, valuation: encoding::valuation(&[1]) }
 }
 
 /// Some 60,000 bytes, gone through 256 times.
@@ -59,22 +78,51 @@ fn deep_loop() -> RunCase {
     deep_table(vec![4, 0, 0, 1, 0, 0, 0, 1])
 }
 
-fn refused_late() -> RunCase {
+fn refused_table() -> RunCase {
     deep_table(vec![3])
 }
 
 fn deep_table(last: Vec<u8>) -> RunCase {
-    let mut records: Vec<Vec<u8>> = (0..800).map(deep_assign).collect();
+    let assign = |i: u16| [vec![1, (i % 2) as u8], deep_expression(Form::Table, 0, i)].concat();
+    let mut records: Vec<Vec<u8>> = (0..800).map(assign).collect();
     records.push(last);
     RunCase { table: encoding::table(2, &records), bound: 255, valuation: encoding::valuation(&[3, 1]) }
 }
 
-/// Sixteen words, symbols and constants in turn, and fifteen binary operators, in another order for each record.
-fn deep_assign(i: u32) -> Vec<u8> {
-    let mut record = vec![1, (i % 2) as u8];
-    for k in 0..8 {
-        record.extend([2, k % 2, 1, k, i as u8, k, i as u8]);
+fn small_trace() -> JudgeCase {
+    JudgeCase { trace: traces::SMALL_RULE_0.to_vec(), valuation: encoding::valuation(&[0]) }
+}
+
+/// Some 60,000 bytes.
+fn deep_statements() -> JudgeCase {
+    deep_trace(statement::assert(0, &[1, 0, 0, 0, 1]))
+}
+
+fn refused_trace() -> JudgeCase {
+    deep_trace(statement::assert(0, &[]))
+}
+
+/// Each symbol is made of the two before it.
+fn deep_trace(last: Vec<u8>) -> JudgeCase {
+    let assign = |i| statement::assign(0, i + 2, &deep_expression(Form::Trace, i, i));
+    let mut statements: Vec<Vec<u8>> = (0..660).map(assign).collect();
+    statements.push(last);
+    JudgeCase { trace: encoding::trace(2, &statements), valuation: encoding::valuation(&[3, 1]) }
+}
+
+/// As many words as may be held, of two symbols and of constants in turn, and binary operators, in another order for
+/// each record.
+fn deep_expression(form: Form, symbol: u16, i: u16) -> Vec<u8> {
+    let depth = form.depth_limit() as u16;
+    let mut expression = Vec::new();
+    for k in 0..depth {
+        let pair = k / 2;
+        if k % 2 == 0 {
+            expression.extend(form.symbol(symbol + pair % 2));
+        } else {
+            expression.extend([1, pair as u8, i as u8, pair as u8, i as u8]);
+        }
     }
-    record.extend((0..15).map(|k| 0x20 + ((i * k + k) % 14) as u8));
-    record
+    expression.extend((0..depth - 1).map(|k| 0x20 + ((i * k + k) % 14) as u8));
+    expression
 }

@@ -1,43 +1,38 @@
 //! Document 01, "Arithmetic": expressions of every operator, up to any depth.
 
 use super::random::Random;
+use crate::encoding::Form;
 
-pub const DEPTH_LIMIT: usize = 16;
+pub const NOT: u8 = 0x10;
+pub const ZERO: u8 = 0x12;
 
-const ZERO: u8 = 0x12;
 const ADD: u8 = 0x20;
 const SUB: u8 = 0x21;
 const EQUAL: u8 = 0x2A;
 const ULT: u8 = 0x2B;
 const ULE: u8 = 0x2D;
 
+/// The symbols that an expression may read, and the form of the file it stands in.
+#[derive(Clone, Copy)]
+pub struct Scope<'a> {
+    pub form: Form,
+    pub symbols: &'a [u16],
+}
+
 pub fn constant(word: u32) -> Vec<u8> {
     let [a, b, c, d] = word.to_be_bytes();
     vec![0x01, a, b, c, d]
 }
 
-pub fn symbol(number: u8) -> Vec<u8> {
-    vec![0x02, number]
-}
-
-pub fn any(random: &mut Random, inputs: u8) -> Vec<u8> {
-    let peak = match random.below(12) {
-        0 => random.between(DEPTH_LIMIT - 2, DEPTH_LIMIT),
-        1 => random.between(6, DEPTH_LIMIT),
-        _ => random.between(1, 5),
-    };
-    with_peak(random, inputs, peak)
-}
-
 /// An expression that holds `peak` words at most, and does so at least once.
-pub fn with_peak(random: &mut Random, inputs: u8, peak: usize) -> Vec<u8> {
+pub fn with_peak(random: &mut Random, scope: Scope, peak: usize) -> Vec<u8> {
     let mut bytes = Vec::new();
     let mut depth = 0;
     while depth < peak {
         if depth > 0 && random.one_in(4) {
             depth -= operate(random, depth, &mut bytes);
         } else {
-            bytes.extend(operand(random, inputs));
+            bytes.extend(operand(random, scope));
             depth += 1;
         }
     }
@@ -67,40 +62,45 @@ fn any_operator(random: &mut Random) -> (u8, usize) {
     }
 }
 
-fn operand(random: &mut Random, inputs: u8) -> Vec<u8> {
-    if inputs == 0 || random.one_in(3) {
+fn operand(random: &mut Random, scope: Scope) -> Vec<u8> {
+    if scope.symbols.is_empty() || random.one_in(3) {
         return constant(random.word());
     }
-    symbol(random.below(inputs.into()) as u8)
+    scope.form.symbol(random.pick(scope.symbols))
 }
 
-/// A test of a symbol against a small constant, as it is or turned.
-pub fn comparison(random: &mut Random, number: u8) -> Vec<u8> {
-    let mut bytes = symbol(number);
-    bytes.extend(constant(random.below(6) as u32));
-    bytes.push(random.between(EQUAL.into(), ULE.into()) as u8);
+/// A test of an expression against a small constant, as it is or turned.
+pub fn comparison(random: &mut Random, expression: Vec<u8>) -> Vec<u8> {
+    let word = random.below(6) as u32;
+    let test = random.between(EQUAL.into(), ULE.into()) as u8;
+    let comparison = with_constant(expression, word, test);
     if random.one_in(2) {
-        bytes.push(ZERO);
+        return is_false(comparison);
     }
-    bytes
+    comparison
 }
 
-pub fn unequal(number: u8, word: u32) -> Vec<u8> {
-    [symbol(number), constant(word), vec![EQUAL, ZERO]].concat()
+pub fn unequal(expression: Vec<u8>, word: u32) -> Vec<u8> {
+    is_false(with_constant(expression, word, EQUAL))
 }
 
-pub fn below(number: u8, word: u32) -> Vec<u8> {
-    [symbol(number), constant(word), vec![ULT]].concat()
+pub fn below(expression: Vec<u8>, word: u32) -> Vec<u8> {
+    with_constant(expression, word, ULT)
 }
 
-pub fn one_more(number: u8) -> Vec<u8> {
-    [symbol(number), constant(1), vec![ADD]].concat()
+pub fn one_more(expression: Vec<u8>) -> Vec<u8> {
+    with_constant(expression, 1, ADD)
 }
 
-pub fn one_less(number: u8) -> Vec<u8> {
-    [symbol(number), constant(1), vec![SUB]].concat()
+pub fn one_less(expression: Vec<u8>) -> Vec<u8> {
+    with_constant(expression, 1, SUB)
 }
 
-pub fn is_false(condition: &[u8]) -> Vec<u8> {
-    [condition, &[ZERO]].concat()
+fn with_constant(expression: Vec<u8>, word: u32, operator: u8) -> Vec<u8> {
+    [expression, constant(word), vec![operator]].concat()
+}
+
+pub fn is_false(mut condition: Vec<u8>) -> Vec<u8> {
+    condition.push(ZERO);
+    condition
 }

@@ -1,46 +1,56 @@
-//! Damage to an accepted table: to its records before they are laid out, and to the bytes afterwards.
+//! Damage to an accepted table or trace: to its records before they are laid out, and to the bytes afterwards.
 
-use super::expressions::{self, DEPTH_LIMIT};
+use std::mem;
+
+use super::draft::{Draft, Record, ASSIGN, IF_THEN_GOTO};
+use super::expressions::{self, Scope};
 use super::random::Random;
-use super::rules::{Record, Rule, ASSIGN, IF_THEN_GOTO};
-use crate::encoding;
+use crate::encoding::{self, Form};
 
 const HEADER_LENGTH: usize = 6;
 
-pub fn damaged(random: &mut Random, mut rule: Rule) -> Vec<u8> {
+pub fn damaged(random: &mut Random, mut draft: Draft) -> Vec<u8> {
     let faults = random.pick(&[0, 1, 1, 1, 2, 3]);
-    damage_records(random, &mut rule, faults);
-    let mut table = rule.encode();
+    damage_records(random, &mut draft, faults);
+    let mut file = draft.encode();
     for _ in 0..random.pick(&[0, 0, 0, 1, 1, 2]) {
-        damage_bytes(random, &mut table);
+        damage_bytes(random, &mut file, draft.form);
     }
-    table
+    file
 }
 
 /// Faults often meet in one record, or in the last.
-fn damage_records(random: &mut Random, rule: &mut Rule, faults: usize) {
-    let count = rule.records.len();
+fn damage_records(random: &mut Random, draft: &mut Draft, faults: usize) {
+    let count = draft.records.len();
     if count == 0 {
         return;
     }
-    let mut place = random.below(count);
+    let mut i = random.below(count);
     for _ in 0..faults {
-        damage_record(random, &mut rule.records[place], rule.inputs, count as u16);
-        place = match random.below(3) {
-            0 => place,
+        damage_record(random, draft, i);
+        i = match random.below(3) {
+            0 => i,
             1 => count - 1,
             _ => random.below(count),
         };
     }
 }
 
-fn damage_record(random: &mut Random, record: &mut Record, inputs: u8, count: u16) {
+fn damage_record(random: &mut Random, draft: &mut Draft, i: usize) {
     match random.below(10) {
-        0 => record.kind = [0, 5, 129, random.byte()][random.below(4)],
-        1 => lose_fields(random, record),
-        2..=4 => break_field(random, record, inputs, count),
-        _ => break_expression(random, &mut record.expression, inputs),
+        0 => break_kind(random, draft.form, &mut draft.records[i]),
+        1 => lose_fields(random, &mut draft.records[i]),
+        2..=4 => break_field(random, draft, i),
+        _ => break_expression(random, draft, i),
     }
+}
+
+fn break_kind(random: &mut Random, form: Form, record: &mut Record) {
+    let first_unknown = match form {
+        Form::Table => 5,
+        Form::Trace => 4,
+    };
+    record.kind = [0, first_unknown, 129, random.byte()][random.below(4)];
 }
 
 fn lose_fields(random: &mut Random, record: &mut Record) {
@@ -49,7 +59,16 @@ fn lose_fields(random: &mut Random, record: &mut Record) {
     record.expression.clear();
 }
 
-fn break_field(random: &mut Random, record: &mut Record, inputs: u8, count: u16) {
+fn break_field(random: &mut Random, draft: &mut Draft, i: usize) {
+    match draft.form {
+        Form::Table => break_table_field(random, draft, i),
+        Form::Trace => break_trace_symbol(random, draft, i),
+    }
+}
+
+fn break_table_field(random: &mut Random, draft: &mut Draft, i: usize) {
+    let (inputs, count) = (draft.inputs, draft.records.len() as u16);
+    let record = &mut draft.records[i];
     if record.kind == ASSIGN {
         record.fields = vec![random.pick(&[inputs, inputs, inputs + 1, 64, 255])];
         return;
@@ -58,75 +77,113 @@ fn break_field(random: &mut Random, record: &mut Record, inputs: u8, count: u16)
     record.set_target(random.pick(&[count + 1, count + 1, count + 2, 1025, 65535]));
 }
 
-fn break_expression(random: &mut Random, expression: &mut Vec<u8>, inputs: u8) {
-    match random.below(13) {
+/// Assigns an input, the newest symbol or one below it, or one too far; the last that is allowed leaves none to others.
+fn break_trace_symbol(random: &mut Random, draft: &mut Draft, i: usize) {
+    let end = draft.symbol_end();
+    let newest = draft.readable(i).pop().unwrap_or(65535);
+    let record = &mut draft.records[i];
+    record.kind = ASSIGN;
+    record.set_trace_symbol(random.pick(&[0, newest, newest, newest.saturating_sub(1), end, end, end - 1, 65535]));
+}
+
+fn break_expression(random: &mut Random, draft: &mut Draft, i: usize) {
+    let mut expression = mem::take(&mut draft.records[i].expression);
+    match random.below(14) {
         0 => expression.clear(),
         1 => expression.insert(0, random.pick(&[0x10, 0x12, 0x20, 0x2D, 0x30])),
         2 => expression.push(random.pick(&[0x20, 0x25, 0x2A, 0x2D, 0x30])),
         3 => expression.extend(expressions::constant(random.word())),
         4 => expression.push(random.pick(&[0x00, 0x04, 0x0F, 0x13, 0x1F, 0x2E, 0x2F, 0x31])),
-        5 => *expression = vec![0x03, 0, 0],
+        5 => expression = draft.form.other().symbol(0),
         6 => drop(expression.pop()),
-        7 => expression.extend([0x01, 0, 0, 1].iter().take(random.between(1, 4))),
-        8 => expression.push(0x02),
-        9 => *expression = expressions::symbol(inputs),
-        10 => *expression = expressions::with_peak(random, inputs, DEPTH_LIMIT + 1),
-        11 => expression.push(random.byte()),
+        7 => expression.extend(cut_token(random, expressions::constant(1))),
+        8 => expression.extend(cut_token(random, draft.form.symbol(0))),
+        9..=10 => expression = draft.form.symbol(unreadable(random, draft, i)),
+        11 => expression = too_deep(random, draft, i),
+        12 => expression.push(random.byte()),
         _ => {
             let place = random.below(expression.len() + 1);
             expression.insert(place, random.byte());
         }
     }
+    draft.records[i].expression = expression;
 }
 
-fn damage_bytes(random: &mut Random, table: &mut Vec<u8>) {
-    if table.len() < HEADER_LENGTH {
+/// A token without its last operands.
+fn cut_token(random: &mut Random, mut token: Vec<u8>) -> Vec<u8> {
+    let length = random.between(1, token.len() - 1);
+    token.truncate(length);
+    token
+}
+
+fn too_deep(random: &mut Random, draft: &Draft, i: usize) -> Vec<u8> {
+    let scope = Scope { form: draft.form, symbols: &draft.readable(i) };
+    expressions::with_peak(random, scope, draft.form.depth_limit() + 1)
+}
+
+/// A symbol that record `i` may not read.
+fn unreadable(random: &mut Random, draft: &Draft, i: usize) -> u16 {
+    let inputs = draft.inputs.into();
+    match draft.form {
+        Form::Table => inputs,
+        Form::Trace => {
+            let readable = draft.readable(i);
+            let own = draft.records[i].trace_symbol().unwrap_or(draft.symbol_end());
+            let skipped = (inputs..own).filter(|symbol| !readable.contains(symbol));
+            let wrong = skipped.chain([own, own, own.saturating_add(1), draft.symbol_end() - 1, 4160, 65535]);
+            random.pick(&wrong.collect::<Vec<u16>>())
+        }
+    }
+}
+
+fn damage_bytes(random: &mut Random, file: &mut Vec<u8>, form: Form) {
+    if file.len() < HEADER_LENGTH {
         return;
     }
     match random.below(12) {
-        0 => table.truncate(random.below(HEADER_LENGTH)),
-        1 => table[0] = random.pick(&[0, 2, 129, 255]),
-        2 => break_length(random, table),
-        3 => table[3] = random.pick(&[0, 1, 2, 65, 66, 128, 255]),
-        4 => break_count(random, table),
-        5 => break_record_length(random, table),
-        6 => cut(random, table),
-        7 => extend(random, table),
-        8 => add_spare_record(random, table),
-        9 => edit_bytes(random, table),
-        10 => insert_byte(random, table),
-        _ => remove_byte(random, table),
+        0 => file.truncate(random.below(HEADER_LENGTH)),
+        1 => file[0] = random.pick(&[form.version() - 1, form.version() + 1, form.other().version(), 255]),
+        2 => break_length(random, file),
+        3 => file[3] = random.pick(&[0, 1, 2, 65, 66, 128, 255]),
+        4 => break_count(random, file, form.count_limit()),
+        5 => break_record_length(random, file),
+        6 => cut_file(random, file),
+        7 => extend(random, file),
+        8 => repeat_record(random, file),
+        9 => edit_bytes(random, file),
+        10 => insert_byte(random, file),
+        _ => remove_byte(random, file),
     }
 }
 
-fn break_length(random: &mut Random, table: &mut [u8]) {
-    let right = table.len() as u16;
+fn break_length(random: &mut Random, file: &mut [u8]) {
+    let right = file.len() as u16;
     let wrong = [right.wrapping_add(1), right.wrapping_sub(1), right.swap_bytes(), 0, 65535];
-    encoding::set_length(table, random.pick(&wrong));
+    encoding::set_length(file, random.pick(&wrong));
 }
 
-fn break_count(random: &mut Random, table: &mut [u8]) {
-    let right = u16::from_be_bytes([table[4], table[5]]);
-    let wrong = [right.wrapping_add(1), right.saturating_sub(1), right / 2, 1024, 1025, 65535];
-    encoding::set_count(table, random.pick(&wrong));
+fn break_count(random: &mut Random, file: &mut [u8], limit: u16) {
+    let right = u16::from_be_bytes([file[4], file[5]]);
+    let wrong = [right.wrapping_add(1), right.saturating_sub(1), right / 2, limit, limit + 1, 65535];
+    encoding::set_count(file, random.pick(&wrong));
 }
 
-fn break_record_length(random: &mut Random, table: &mut [u8]) {
-    let Some((offset, right)) = some_record(random, table) else {
+fn break_record_length(random: &mut Random, file: &mut [u8]) {
+    let Some((offset, right)) = some_record(random, file) else {
         return;
     };
     let wrong = [0, 1, 2, right.wrapping_add(1), right.wrapping_sub(1), 65535];
     let length = random.pick(&wrong);
-    table[offset..offset + 2].copy_from_slice(&length.to_be_bytes());
+    file[offset..offset + 2].copy_from_slice(&length.to_be_bytes());
 }
 
 /// The offset and the length of a record, the last one at times.
-fn some_record(random: &mut Random, table: &[u8]) -> Option<(usize, u16)> {
+fn some_record(random: &mut Random, file: &[u8]) -> Option<(usize, u16)> {
     let skipped = random.below(12);
     let mut offset = HEADER_LENGTH;
     let mut found = None;
     for _ in 0..=skipped {
-        let Some(&[high, low]) = table.get(offset..offset + 2) else {
+        let Some(&[high, low]) = file.get(offset..offset + 2) else {
             break;
         };
         let length = u16::from_be_bytes([high, low]);
@@ -136,53 +193,57 @@ fn some_record(random: &mut Random, table: &[u8]) -> Option<(usize, u16)> {
     found
 }
 
-fn cut(random: &mut Random, table: &mut Vec<u8>) {
-    let length = random.between(HEADER_LENGTH, table.len());
-    table.truncate(length);
-    mend_length_mostly(random, table);
+fn cut_file(random: &mut Random, file: &mut Vec<u8>) {
+    let length = random.between(HEADER_LENGTH, file.len());
+    file.truncate(length);
+    mend_length_mostly(random, file);
 }
 
 /// Adds a few bytes, or so many that the length field says the same again.
-fn extend(random: &mut Random, table: &mut Vec<u8>) {
+fn extend(random: &mut Random, file: &mut Vec<u8>) {
     if random.one_in(20) {
-        table.resize(table.len() + 65_536, 0);
+        file.resize(file.len() + 65_536, 0);
         return;
     }
     for _ in 0..random.between(1, 5) {
-        table.push(random.byte());
+        file.push(random.byte());
     }
-    mend_length_mostly(random, table);
+    mend_length_mostly(random, file);
 }
 
-fn add_spare_record(random: &mut Random, table: &mut Vec<u8>) {
-    table.extend([0, 6, 3, 1, 0, 0, 0, 1]);
-    mend_length_mostly(random, table);
+fn repeat_record(random: &mut Random, file: &mut Vec<u8>) {
+    let Some((offset, length)) = some_record(random, file) else {
+        return;
+    };
+    let end = offset + 2 + usize::from(length);
+    file.extend_from_within(offset..end.min(file.len()));
+    mend_length_mostly(random, file);
 }
 
-fn edit_bytes(random: &mut Random, table: &mut [u8]) {
+fn edit_bytes(random: &mut Random, file: &mut [u8]) {
     for _ in 0..random.between(1, 3) {
-        let place = random.below(table.len());
-        table[place] = random.byte();
+        let place = random.below(file.len());
+        file[place] = random.byte();
     }
 }
 
-fn insert_byte(random: &mut Random, table: &mut Vec<u8>) {
-    let place = random.between(HEADER_LENGTH, table.len());
-    table.insert(place, random.byte());
-    mend_length_mostly(random, table);
+fn insert_byte(random: &mut Random, file: &mut Vec<u8>) {
+    let place = random.between(HEADER_LENGTH, file.len());
+    file.insert(place, random.byte());
+    mend_length_mostly(random, file);
 }
 
-fn remove_byte(random: &mut Random, table: &mut Vec<u8>) {
-    if table.len() == HEADER_LENGTH {
+fn remove_byte(random: &mut Random, file: &mut Vec<u8>) {
+    if file.len() == HEADER_LENGTH {
         return;
     }
-    let place = random.between(HEADER_LENGTH, table.len() - 1);
-    table.remove(place);
-    mend_length_mostly(random, table);
+    let place = random.between(HEADER_LENGTH, file.len() - 1);
+    file.remove(place);
+    mend_length_mostly(random, file);
 }
 
-fn mend_length_mostly(random: &mut Random, table: &mut [u8]) {
+fn mend_length_mostly(random: &mut Random, file: &mut [u8]) {
     if !random.one_in(4) {
-        encoding::mend_length(table);
+        encoding::mend_length(file);
     }
 }

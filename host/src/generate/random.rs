@@ -38,6 +38,10 @@ impl Random {
         self.next() as u8
     }
 
+    pub fn any_word(&mut self) -> u32 {
+        self.next() as u32
+    }
+
     /// Small words and the edges of words more often than others.
     pub fn word(&mut self) -> u32 {
         match self.below(10) {
@@ -46,7 +50,7 @@ impl Random {
             6 => 0x8000_0000_u32.wrapping_add(self.below(3) as u32).wrapping_sub(1),
             7 => u32::MAX - self.below(3) as u32,
             8 => 1 << self.below(32),
-            _ => self.next() as u32,
+            _ => self.any_word(),
         }
     }
 }

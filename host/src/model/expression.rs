@@ -1,9 +1,8 @@
-//! Document 01, "Arithmetic": the postfix expressions of a table, over 32-bit words.
-
-const DEPTH_LIMIT: usize = 16;
+//! Document 01, "Arithmetic": the postfix expressions of tables and traces, over 32-bit words.
 
 const CONSTANT: u8 = 0x01;
-const SYMBOL: u8 = 0x02;
+const TABLE_SYMBOL: u8 = 0x02;
+const TRACE_SYMBOL: u8 = 0x03;
 const NOT: u8 = 0x10;
 const NEG: u8 = 0x11;
 const ZERO: u8 = 0x12;
@@ -23,19 +22,74 @@ const SLT: u8 = 0x2C;
 const ULE: u8 = 0x2D;
 const ITE: u8 = 0x30;
 
-/// Whether the bytes are one expression that reads only symbols below `inputs`.
-pub fn is_accepted(mut bytes: &[u8], inputs: u8) -> bool {
+/// What the expressions of tables and of traces differ in.
+pub trait Form {
+    const DEPTH_LIMIT: usize;
+
+    /// The symbol that the bytes begin with, and what follows it.
+    fn split_symbol(bytes: &[u8]) -> Option<(usize, &[u8])>;
+}
+
+pub struct InTable;
+
+impl Form for InTable {
+    const DEPTH_LIMIT: usize = 16;
+
+    fn split_symbol(bytes: &[u8]) -> Option<(usize, &[u8])> {
+        match *bytes {
+            [TABLE_SYMBOL, symbol, ref rest @ ..] => Some((symbol.into(), rest)),
+            _ => None,
+        }
+    }
+}
+
+pub struct InTrace;
+
+impl Form for InTrace {
+    const DEPTH_LIMIT: usize = 17;
+
+    fn split_symbol(bytes: &[u8]) -> Option<(usize, &[u8])> {
+        match *bytes {
+            [TRACE_SYMBOL, high, low, ref rest @ ..] => Some((u16::from_be_bytes([high, low]).into(), rest)),
+            _ => None,
+        }
+    }
+}
+
+enum Token {
+    Constant(u32),
+    Symbol(usize),
+    Operator(u8),
+}
+
+/// The token that the bytes begin with, with its operands, and what follows it.
+fn split_token<F: Form>(bytes: &[u8]) -> Option<(Token, &[u8])> {
+    if let Some((symbol, rest)) = F::split_symbol(bytes) {
+        return Some((Token::Symbol(symbol), rest));
+    }
+    match *bytes {
+        [CONSTANT, a, b, c, d, ref rest @ ..] => Some((Token::Constant(u32::from_be_bytes([a, b, c, d])), rest)),
+        [operator @ (NOT..=ZERO | ADD..=ULE | ITE), ref rest @ ..] => Some((Token::Operator(operator), rest)),
+        _ => None,
+    }
+}
+
+/// Whether the bytes are one expression that reads only what it may.
+pub fn is_accepted<F: Form>(mut bytes: &[u8], may_read: impl Fn(usize) -> bool) -> bool {
     let mut depth = 0;
     while !bytes.is_empty() {
-        let (pops, rest) = match *bytes {
-            [CONSTANT, _, _, _, _, ref rest @ ..] => (0, rest),
-            [SYMBOL, symbol, ref rest @ ..] if symbol < inputs => (0, rest),
-            [NOT..=ZERO, ref rest @ ..] => (1, rest),
-            [ADD..=ULE, ref rest @ ..] => (2, rest),
-            [ITE, ref rest @ ..] => (3, rest),
-            _ => return false,
+        let Some((token, rest)) = split_token::<F>(bytes) else {
+            return false;
         };
-        if depth < pops || depth - pops == DEPTH_LIMIT {
+        let pops = match token {
+            Token::Constant(_) => 0,
+            Token::Symbol(symbol) if may_read(symbol) => 0,
+            Token::Symbol(_) => return false,
+            Token::Operator(ITE) => 3,
+            Token::Operator(NOT..=ZERO) => 1,
+            Token::Operator(_) => 2,
+        };
+        if depth < pops || depth - pops == F::DEPTH_LIMIT {
             return false;
         }
         depth = depth - pops + 1;
@@ -45,30 +99,22 @@ pub fn is_accepted(mut bytes: &[u8], inputs: u8) -> bool {
 }
 
 /// The word that an accepted expression leaves.
-pub fn evaluate(mut bytes: &[u8], words: &[u32]) -> u32 {
+pub fn evaluate<F: Form>(mut bytes: &[u8], words: &[u32]) -> u32 {
     let mut stack = Stack::default();
-    loop {
-        bytes = match *bytes {
-            [CONSTANT, a, b, c, d, ref rest @ ..] => {
-                stack.push(u32::from_be_bytes([a, b, c, d]));
-                rest
-            }
-            [SYMBOL, symbol, ref rest @ ..] => {
-                stack.push(words[usize::from(symbol)]);
-                rest
-            }
-            [operator, ref rest @ ..] => {
-                stack.operate(operator);
-                rest
-            }
-            [] => return stack.pop(),
-        };
+    while let Some((token, rest)) = split_token::<F>(bytes) {
+        match token {
+            Token::Constant(word) => stack.push(word),
+            Token::Symbol(symbol) => stack.push(words[symbol]),
+            Token::Operator(operator) => stack.operate(operator),
+        }
+        bytes = rest;
     }
+    stack.pop()
 }
 
 #[derive(Default)]
 struct Stack {
-    words: [u32; DEPTH_LIMIT],
+    words: [u32; InTrace::DEPTH_LIMIT],
     depth: usize,
 }
 
@@ -83,6 +129,8 @@ impl Stack {
         self.words[self.depth]
     }
 
+    /// Inlined for each form, since a call for each token takes a third more time.
+    #[inline(always)]
     fn operate(&mut self, operator: u8) {
         match operator {
             NOT => self.unary(|a| !a),

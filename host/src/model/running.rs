@@ -1,7 +1,8 @@
 //! Document 01, "Running a table under bound K".
 
-use super::expression::evaluate;
-use super::reading::{Instruction, Table, INPUT_LIMIT};
+use super::expression::{evaluate, InTable};
+use super::file::INPUT_LIMIT;
+use super::table::{Instruction, Table};
 
 pub struct Outcome {
     /// The place of a false Assert; a safe run has none.
@@ -9,15 +10,15 @@ pub struct Outcome {
     pub back_jumps: u32,
 }
 
-pub fn run(table: &Table, bound: u32, mut words: [u32; INPUT_LIMIT]) -> Outcome {
+pub fn run(table: &Table, bound: u32, words: &mut [u32; INPUT_LIMIT]) -> Outcome {
     let n = table.instruction_count();
     let mut back_jumps = 0;
     let mut i = 0;
     while i < n {
         let record = table.record(i);
-        let word = evaluate(record.expression, &words);
+        let word = evaluate::<InTable>(record.expression, words);
         let mut next = i + 1;
-        match record.instruction {
+        match record.action {
             Instruction::Assign { symbol } => words[usize::from(symbol)] = word,
             Instruction::Assume if word == 0 => break,
             Instruction::Assert if word == 0 => return failed(back_jumps, n, i),

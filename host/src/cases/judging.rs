@@ -1,0 +1,196 @@
+//! Judging a trace: document 01's marked cases, limits, sentences and refusals.
+
+use super::{contrary, marked_operators, ones, traces, Known, CONSTANT_0, CONSTANT_1};
+use crate::case::JudgeCase;
+use crate::encoding;
+use crate::model::JudgeAnswer;
+use crate::statement::{assert, assign, assume, read};
+
+type KnownJudgement = Known<JudgeCase>;
+
+const NOT: u8 = 0x10;
+const NEG: u8 = 0x11;
+
+/// The marked cases that concern judging.
+pub fn marked() -> Vec<KnownJudgement> {
+    let mut known = vec![
+        under_x("m1: x=0, K=0", traces::SMALL_RULE_0, 0, unsafe_at(3)),
+        under_x("m2: x=1, K=0", traces::SMALL_RULE_0, 1, safe()),
+        under_x("m3: x=1, K=1", traces::SMALL_RULE_1, 1, unsafe_at(8)),
+        under_x("m4: x=2, K=1", traces::SMALL_RULE_1, 2, safe()),
+        known("m11: no instructions", traces::NO_INSTRUCTIONS, [], safe()),
+        under_x("m12: 5", traces::EXAMPLE, 5, safe()),
+        under_x("m12: 10", traces::EXAMPLE, 10, unsafe_at(1)),
+    ];
+    known.extend(marked_operators().map(|(name, test)| operator(name, &test)));
+    known
+}
+
+/// The limits of traces, and what lies just outside.
+pub fn limits() -> Vec<KnownJudgement> {
+    let asserts = |count| encoding::trace(0, &vec![assert(1, &CONSTANT_1); count]);
+    let inputs = |count| encoding::trace(count, &[assert(1, &CONSTANT_1)]);
+    let deep = |depth| encoding::trace(0, &[assert(1, &ones(depth))]);
+    let last_symbol = encoding::trace(64, &[assign(1, 4159, &CONSTANT_1), assert(2, &read(63))]);
+    let assigned =
+        |inputs, symbol| encoding::trace(inputs, &[assign(1, symbol, &CONSTANT_1), assert(2, &read(symbol))]);
+    vec![
+        known("4,096 statements", asserts(4096), [], safe()),
+        known("4,097 statements", asserts(4097), [], refused(4, 0)),
+        under_x("4,095 symbols, x=0", turned_4095_times(), 0, safe()),
+        under_x("4,095 symbols, x=2^32-1", turned_4095_times(), u32::MAX, unsafe_at(1)),
+        known("65,535 bytes", negated_to(65_535), [], unsafe_at(1)),
+        known("65,536 bytes", negated_to(65_536), [], refused(3, 0)),
+        known("S=64", inputs(64), [0; 4 * 64], safe()),
+        known("S=65", inputs(65), [0; 4 * 65], refused(4, 0)),
+        known("17 words of depth", deep(17), [], safe()),
+        known("18 words of depth", deep(18), [], refused(7, 6)),
+        known("S=0, symbol 4,095", assigned(0, 4095), [], safe()),
+        known("S=0, symbol 4,096", assigned(0, 4096), [], refused(6, 6)),
+        known("S=64, symbol 63", assigned(64, 63), [0; 4 * 64], refused(6, 6)),
+        known("S=64, symbol 64", assigned(64, 64), [0; 4 * 64], safe()),
+        known("S=64, symbol 4,159", assigned(64, 4159), [0; 4 * 64], safe()),
+        known("S=64, symbol 4,160", assigned(64, 4160), [0; 4 * 64], refused(6, 6)),
+        known("S=64, symbol 4,159 leaves the inputs alone", last_symbol, [0; 4 * 64], unsafe_at(2)),
+    ]
+}
+
+/// Each symbol is the one before with every bit turned; the last is asserted.
+fn turned_4095_times() -> Vec<u8> {
+    let turned = |symbol| [&read(symbol)[..], &[NOT]].concat();
+    let mut statements: Vec<Vec<u8>> = (1..=4095).map(|symbol| assign(0, symbol, &turned(symbol - 1))).collect();
+    statements.push(assert(1, &read(4095)));
+    encoding::trace(1, &statements)
+}
+
+/// A trace of so many bytes that asserts 0, negated again and again.
+fn negated_to(length: usize) -> Vec<u8> {
+    let mut condition = CONSTANT_0.to_vec();
+    let rest = length - encoding::trace(0, &[assert(1, &condition)]).len();
+    condition.extend(vec![NEG; rest]);
+    encoding::trace(0, &[assert(1, &condition)])
+}
+
+/// Sentences on judging a trace.
+pub fn judgements() -> Vec<KnownJudgement> {
+    let [holds, fails] = [&CONSTANT_1, &CONSTANT_0];
+    let second_first = encoding::trace(2, &[assert(1, &read(1)), assert(2, &read(0))]);
+    vec![
+        judge("no statement", &[], safe()),
+        judge("a safe verdict has place 0", &[assert(9, holds)], safe()),
+        judge("the first false Assert counts", &[assert(1, holds), assert(2, fails), assert(3, fails)], unsafe_at(2)),
+        judge("a false Assume ends the trace safe", &[assume(1, fails), assert(2, fails)], safe()),
+        judge("a true Assume does not", &[assume(1, holds), assert(2, fails)], unsafe_at(2)),
+        judge("an Assume excuses no Assert before it", &[assert(1, fails), assume(2, fails)], unsafe_at(1)),
+        judge("any word but 0 is true", &[assume(1, &[1, 0, 0, 1, 0]), assert(2, &[1, 128, 0, 0, 0])], safe()),
+        judge("place 0 can be unsafe", &[assert(0, fails)], unsafe_at(0)),
+        judge("place 65535 can be unsafe", &[assert(65535, fails)], unsafe_at(65535)),
+        judge("places may repeat and fall", &[assert(9, holds), assert(9, holds), assert(3, fails)], unsafe_at(3)),
+        judge("symbols may be skipped", &[assign(1, 7, holds), assert(2, &read(7))], safe()),
+        judge("an assigned 0 is false", &[assign(1, 7, fails), assert(2, &read(7))], unsafe_at(2)),
+        judge("a symbol keeps its word", &[assign(1, 0, holds), assign(2, 1, fails), assert(3, &read(0))], safe()),
+        known("inputs stand in order", second_first, [0, 0, 0, 0, 0, 0, 0, 1], unsafe_at(2)),
+        known("words are big-endian", traces::EXAMPLE, [1, 0, 0, 0], unsafe_at(1)),
+    ]
+}
+
+/// Sentences on the order and the offsets of refusals. Most records here have no expression, so that a 7 is due too.
+pub fn refusals() -> Vec<KnownJudgement> {
+    let fails = &CONSTANT_0;
+    vec![
+        bytes("no byte", &[], refused(1, 0)),
+        bytes("5 bytes, version wrong", &[1, 0, 5, 0, 0], refused(1, 0)),
+        bytes("a table's version, length wrong", &[1, 0, 5, 0, 0, 0], refused(2, 0)),
+        bytes("version 128", &[128, 0, 6, 0, 0, 0], refused(2, 0)),
+        bytes("version 130", &[130, 0, 6, 0, 0, 0], refused(2, 0)),
+        bytes("length and S wrong", &[129, 0, 7, 65, 0, 0], refused(3, 0)),
+        bytes("S wrong, record missing", &[129, 0, 6, 65, 0, 1], refused(4, 0)),
+        bytes("record due at the very end", &[129, 0, 6, 0, 0, 1], refused(5, 6)),
+        bytes("half a record length", &[129, 0, 7, 0, 0, 1, 0], refused(5, 6)),
+        bytes("record passing the end", &[129, 0, 11, 0, 0, 1, 0, 4, 3, 0, 0], refused(5, 6)),
+        bytes("spare byte", &[129, 0, 7, 0, 0, 0, 0], refused(5, 6)),
+        judge("record length 0", &[vec![]], refused(5, 6)),
+        judge("unknown kind 0", &[vec![0, 0, 0]], refused(5, 6)),
+        judge("a table's jump", &[vec![4, 0, 0]], refused(5, 6)),
+        judge("Assume without its place", &[vec![2]], refused(5, 6)),
+        judge("half a place", &[vec![3, 0]], refused(5, 6)),
+        judge("Assign without its symbol", &[vec![1, 0, 0]], refused(5, 6)),
+        judge("half a symbol", &[vec![1, 0, 0, 0]], refused(5, 6)),
+        judge("6 before 7: symbol S + 4,096", &[assign(1, 4096, &[])], refused(6, 6)),
+        judge("7 alone: symbol S + 4,095", &[assign(1, 4095, &[])], refused(7, 6)),
+        under_x("6 before 7: symbol S - 1", encoding::trace(1, &[assign(1, 0, &[])]), 0, refused(6, 6)),
+        under_x("7 alone: symbol S", encoding::trace(1, &[assign(1, 1, &[])]), 0, refused(7, 6)),
+        judge("6 before 7: a symbol again", &[assign(1, 5, fails), assign(2, 5, &[])], refused(6, 18)),
+        judge("6 before 7: a symbol below", &[assign(1, 5, fails), assign(2, 4, &[])], refused(6, 18)),
+        judge("7 alone: a symbol above", &[assign(1, 5, fails), assign(2, 6, &[])], refused(7, 18)),
+        judge("reading its own symbol", &[assign(1, 5, &read(5))], refused(7, 6)),
+        judge("reading a skipped symbol", &[assign(1, 5, fails), assume(2, &read(4))], refused(7, 18)),
+        judge("reading a later symbol", &[assume(1, &read(5)), assign(2, 5, fails)], refused(7, 6)),
+        under_x("reading symbol S", encoding::trace(1, &[assume(1, &read(1))]), 0, refused(7, 6)),
+        judge("reading symbol S + 4,096", &[assume(1, &read(4096))], refused(7, 6)),
+        judge("reading symbol 65535", &[assume(1, &read(65535))], refused(7, 6)),
+        under_x("a table's symbol", encoding::trace(1, &[assume(1, &[2, 0])]), 0, refused(7, 6)),
+        judge("7 before a later 5", &[assume(1, &[]), vec![9]], refused(7, 6)),
+        judge("7 before a later 6", &[assume(1, &[]), assign(2, 4096, &[])], refused(7, 6)),
+        bytes("7 before spare bytes", &[129, 0, 12, 0, 0, 1, 0, 3, 3, 0, 0, 0], refused(7, 6)),
+        judge("5 behind a false Assert", &[assert(1, fails), vec![9]], refused(5, 16)),
+        judge("6 behind a false Assert", &[assert(1, fails), assign(2, 4096, fails)], refused(6, 16)),
+        judge("7 behind a false Assert", &[assert(1, fails), assume(2, &[])], refused(7, 16)),
+        judge("7 behind a false Assume", &[assume(1, fails), assume(2, &[])], refused(7, 16)),
+        bytes(
+            "spare byte behind a false Assert",
+            &[129, 0, 17, 0, 0, 1, 0, 8, 3, 0, 1, 1, 0, 0, 0, 0, 0],
+            refused(5, 16),
+        ),
+        known("7 before 11", encoding::trace(1, &[assume(1, &[])]), [], refused(7, 6)),
+        known("11 before a false Assert", encoding::trace(0, &[assert(1, fails)]), [0], refused(11, 0)),
+        known("no valuation", traces::EXAMPLE, [], refused(11, 0)),
+        known("S bytes of valuation", traces::EXAMPLE, [0; 1], refused(11, 0)),
+        known("a byte too many of valuation", traces::EXAMPLE, [0; 5], refused(11, 0)),
+        known("a word too many of valuation", traces::EXAMPLE, [0; 8], refused(11, 0)),
+    ]
+}
+
+/// Kinds that no trace has.
+pub fn unknown_kinds() -> Vec<KnownJudgement> {
+    super::unknown_kinds(1..=3).map(|(name, record)| judge(&name, &[record], refused(5, 6))).collect()
+}
+
+/// Tokens that no trace has.
+pub fn unknown_tokens() -> Vec<KnownJudgement> {
+    super::unknown_tokens(0x03).map(|(name, test)| judge(&name, &[assert(1, &test)], refused(7, 6))).collect()
+}
+
+/// Asserts a test, then its contrary: only the second may fail.
+fn operator(name: &str, test: &[u8]) -> KnownJudgement {
+    judge(name, &[assert(1, test), assert(2, &contrary(test))], unsafe_at(2))
+}
+
+fn judge(name: &str, statements: &[Vec<u8>], answer: JudgeAnswer) -> KnownJudgement {
+    bytes(name, &encoding::trace(0, statements), answer)
+}
+
+fn bytes(name: &str, trace: &[u8], answer: JudgeAnswer) -> KnownJudgement {
+    known(name, trace, [], answer)
+}
+
+fn under_x(name: &str, trace: impl Into<Vec<u8>>, x: u32, answer: JudgeAnswer) -> KnownJudgement {
+    known(name, trace, x.to_be_bytes(), answer)
+}
+
+fn known(name: &str, trace: impl Into<Vec<u8>>, valuation: impl Into<Vec<u8>>, answer: JudgeAnswer) -> KnownJudgement {
+    let case = JudgeCase { trace: trace.into(), valuation: valuation.into() };
+    Known { name: name.into(), case, answer }
+}
+
+fn safe() -> JudgeAnswer {
+    JudgeAnswer::default()
+}
+
+fn unsafe_at(place: u32) -> JudgeAnswer {
+    JudgeAnswer { verdict: 1, place, ..JudgeAnswer::default() }
+}
+
+fn refused(reply: u32, offset: u32) -> JudgeAnswer {
+    JudgeAnswer { reply, offset, ..JudgeAnswer::default() }
+}

@@ -1,0 +1,97 @@
+//! Document 01, "Table and trace bytes": an accepted trace, or its first refusal.
+
+use std::ops::Range;
+
+use super::expression::{self, InTrace};
+use super::file::{check_records, Action, Header, Record, Refusal, Rules, HEADER_LENGTH, INPUT_LIMIT};
+
+pub const SYMBOL_LIMIT: usize = INPUT_LIMIT + STATEMENT_LIMIT;
+
+const STATEMENT_LIMIT: usize = 4096;
+const VERSION: u8 = 129;
+
+pub struct Trace<'a> {
+    pub inputs: u8,
+    count: u16,
+    bytes: &'a [u8],
+}
+
+impl<'a> Trace<'a> {
+    pub fn read(bytes: &'a [u8]) -> Result<Trace<'a>, Refusal> {
+        let Header { inputs, count } = Header::read(bytes, VERSION, STATEMENT_LIMIT)?;
+        check_records(bytes, count, &mut TraceRules::new(inputs))?;
+        Ok(Trace { inputs, count, bytes })
+    }
+
+    pub fn records(&self) -> impl Iterator<Item = Record<'a, Statement>> + '_ {
+        let mut offset = HEADER_LENGTH;
+        (0..self.count).map(move |_| {
+            let record = Record::at(self.bytes, offset).expect("the trace was accepted");
+            offset = record.end;
+            record
+        })
+    }
+}
+
+pub enum Statement {
+    Assign { symbol: u16 },
+    Assume,
+    Assert { place: u16 },
+}
+
+impl Action for Statement {
+    fn split(body: &[u8]) -> Option<(Statement, &[u8])> {
+        match *body {
+            [1, _, _, high, low, ref expression @ ..] => {
+                let symbol = u16::from_be_bytes([high, low]);
+                Some((Statement::Assign { symbol }, expression))
+            }
+            [2, _, _, ref expression @ ..] => Some((Statement::Assume, expression)),
+            [3, high, low, ref expression @ ..] => {
+                let place = u16::from_be_bytes([high, low]);
+                Some((Statement::Assert { place }, expression))
+            }
+            _ => None,
+        }
+    }
+}
+
+/// What the statements read so far leave to the next.
+struct TraceRules {
+    /// The inputs and the symbols assigned.
+    readable: [bool; SYMBOL_LIMIT],
+    /// The symbols above every one assigned.
+    assignable: Range<usize>,
+}
+
+impl TraceRules {
+    fn new(inputs: u8) -> TraceRules {
+        let inputs = usize::from(inputs);
+        let mut readable = [false; SYMBOL_LIMIT];
+        readable[..inputs].fill(true);
+        TraceRules { readable, assignable: inputs..inputs + STATEMENT_LIMIT }
+    }
+}
+
+impl Rules for TraceRules {
+    type Action = Statement;
+
+    fn allow(&self, statement: &Statement) -> bool {
+        match *statement {
+            Statement::Assign { symbol } => self.assignable.contains(&symbol.into()),
+            Statement::Assume | Statement::Assert { .. } => true,
+        }
+    }
+
+    fn accept(&self, expression: &[u8]) -> bool {
+        expression::is_accepted::<InTrace>(expression, |symbol| self.readable.get(symbol) == Some(&true))
+    }
+
+    fn note(&mut self, _: usize, _: usize, statement: Statement) {
+        if let Statement::Assign { symbol } = statement {
+            let symbol = usize::from(symbol);
+            self.readable[symbol] = true;
+            self.assignable.start = symbol + 1;
+        }
+    }
+}

@@ -1,0 +1,74 @@
+//! A table or a trace taken apart, however damaged.
+
+use crate::encoding;
+
+#[derive(Clone)]
+pub struct Parts {
+    version: u8,
+    pub inputs: u8,
+    pub records: Vec<Vec<u8>>,
+    /// What stands behind the last whole record.
+    pub rest: Vec<u8>,
+    /// How far the header's length and count are off, which is kept.
+    length_excess: u16,
+    count_excess: u16,
+}
+
+impl Parts {
+    /// Nothing for a file without a whole header.
+    pub fn of(file: &[u8]) -> Option<Parts> {
+        let &[version, high, low, inputs, count_high, count_low] = file.first_chunk()?;
+        let length = u16::from_be_bytes([high, low]);
+        let count = u16::from_be_bytes([count_high, count_low]);
+        let (records, rest) = split_records(&file[6..], count.into());
+        Some(Parts {
+            version,
+            inputs,
+            length_excess: length.wrapping_sub(file.len() as u16),
+            count_excess: count.wrapping_sub(records.len() as u16),
+            records,
+            rest,
+        })
+    }
+
+    pub fn join(&self) -> Vec<u8> {
+        let mut file = encoding::file(self.version, self.inputs, &self.records);
+        file.extend(&self.rest);
+        let length = self.length_excess.wrapping_add(file.len() as u16);
+        encoding::set_length(&mut file, length);
+        let count = self.count_excess.wrapping_add(self.records.len() as u16);
+        encoding::set_count(&mut file, count);
+        file
+    }
+
+    /// Drops the records from `start` to `end`; a table's jumps go where they went, or to what follows the gap.
+    pub fn drop_records(&mut self, start: usize, end: usize) {
+        self.records.drain(start..end);
+        for record in &mut self.records {
+            let [4, high, low, ..] = &mut record[..] else {
+                continue;
+            };
+            let target = usize::from(u16::from_be_bytes([*high, *low]));
+            let gap = target.clamp(start, end) - start;
+            [*high, *low] = ((target - gap) as u16).to_be_bytes();
+        }
+    }
+}
+
+fn split_records(mut rest: &[u8], count: usize) -> (Vec<Vec<u8>>, Vec<u8>) {
+    let mut records = Vec::new();
+    while records.len() < count {
+        let Some((record, behind)) = split_record(rest) else {
+            break;
+        };
+        records.push(record.to_vec());
+        rest = behind;
+    }
+    (records, rest.to_vec())
+}
+
+fn split_record(bytes: &[u8]) -> Option<(&[u8], &[u8])> {
+    let (length, behind) = bytes.split_first_chunk()?;
+    let length = usize::from(u16::from_be_bytes(*length));
+    (length <= behind.len()).then(|| behind.split_at(length))
+}

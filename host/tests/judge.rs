@@ -1,0 +1,168 @@
+//! Judging a trace: document 01's cases, and the archive against the model on generated ones.
+
+use host::case::{Case, JudgeCase};
+use host::cases::judging as cases;
+use host::encoding;
+use host::generate;
+use host::hold::{hold_archive_to_model, hold_features, hold_known};
+use host::model::{self, JudgeAnswer};
+use host::parts::Parts;
+
+const ASSIGN: u8 = 1;
+const ASSUME: u8 = 2;
+const ASSERT: u8 = 3;
+
+/// What generated cases have to show, one in so many.
+const DUE: [(&str, u64); 20] = [
+    ("reply 0", 500),
+    ("reply 1", 500),
+    ("reply 2", 500),
+    ("reply 3", 500),
+    ("reply 4", 500),
+    ("reply 5", 500),
+    ("reply 6", 500),
+    ("reply 7", 500),
+    ("reply 11", 500),
+    ("reply 5, a false Assert before", 500),
+    ("reply 6, a false Assert before", 500),
+    ("reply 7, a false Assert before", 500),
+    ("safe", 500),
+    ("safe, a false Assert behind a false Assume", 500),
+    ("unsafe", 500),
+    ("unsafe, a false Assume behind the false Assert", 500),
+    ("unsafe, place 65535", 500),
+    ("accepted, symbol S + 4,095 assigned", 500),
+    ("accepted, 4,000 statements or more", 5_000),
+    ("accepted, 65,000 bytes or more", 10_000),
+];
+
+#[test]
+fn the_marked_cases_hold_in_the_model() {
+    hold_known(JudgeCase::model, cases::marked());
+}
+
+#[test]
+fn the_marked_cases_hold_in_the_archive() {
+    hold_known(JudgeCase::archive, cases::marked());
+}
+
+#[test]
+fn the_limits_hold_in_the_model() {
+    hold_known(JudgeCase::model, cases::limits());
+}
+
+#[test]
+fn the_limits_hold_in_the_archive() {
+    hold_known(JudgeCase::archive, cases::limits());
+}
+
+#[test]
+fn the_sentences_on_judging_hold_in_the_model() {
+    hold_known(JudgeCase::model, cases::judgements());
+}
+
+#[test]
+fn the_sentences_on_judging_hold_in_the_archive() {
+    hold_known(JudgeCase::archive, cases::judgements());
+}
+
+#[test]
+fn the_sentences_on_refusals_hold_in_the_model() {
+    hold_known(JudgeCase::model, cases::refusals());
+}
+
+#[test]
+fn the_sentences_on_refusals_hold_in_the_archive() {
+    hold_known(JudgeCase::archive, cases::refusals());
+}
+
+#[test]
+fn every_unknown_kind_is_refused_5_by_the_model() {
+    hold_known(JudgeCase::model, cases::unknown_kinds());
+}
+
+#[test]
+fn every_unknown_kind_is_refused_5_by_the_archive() {
+    hold_known(JudgeCase::archive, cases::unknown_kinds());
+}
+
+#[test]
+fn every_unknown_token_is_refused_7_by_the_model() {
+    hold_known(JudgeCase::model, cases::unknown_tokens());
+}
+
+#[test]
+fn every_unknown_token_is_refused_7_by_the_archive() {
+    hold_known(JudgeCase::archive, cases::unknown_tokens());
+}
+
+#[test]
+fn the_generated_cases_reach_every_reply_both_verdicts_and_what_they_hide() {
+    hold_features(generate::judge_case, features, &DUE);
+}
+
+#[test]
+fn the_archive_gives_the_models_answer_on_every_case() {
+    hold_archive_to_model(generate::judge_case);
+}
+
+/// What a case shows, in the words of `DUE`.
+fn features(case: &JudgeCase, answer: JudgeAnswer) -> Vec<String> {
+    let reply = format!("reply {}", answer.reply);
+    match answer.reply {
+        0 => [vec![reply], accepted_features(case, answer)].concat(),
+        5..=7 if is_unsafe_before(case, answer.offset) => vec![format!("{reply}, a false Assert before"), reply],
+        _ => vec![reply],
+    }
+}
+
+fn accepted_features(case: &JudgeCase, answer: JudgeAnswer) -> Vec<String> {
+    let statements = statements(case);
+    let last_symbol = u16::from(case.trace[3]) + 4095;
+    let is_unsafe = answer.verdict == 1;
+    let [false_assume, false_assert] = [ASSUME, ASSERT].map(|kind| has_false(case, kind));
+    let shown = [
+        (!is_unsafe, "safe"),
+        (!is_unsafe && false_assert, "safe, a false Assert behind a false Assume"),
+        (is_unsafe, "unsafe"),
+        (is_unsafe && false_assume, "unsafe, a false Assume behind the false Assert"),
+        (answer.place == 65535, "unsafe, place 65535"),
+        (assigns(&statements, last_symbol), "accepted, symbol S + 4,095 assigned"),
+        (statements.len() >= 4_000, "accepted, 4,000 statements or more"),
+        (case.trace.len() >= 65_000, "accepted, 65,000 bytes or more"),
+    ];
+    shown.into_iter().filter(|(is_shown, _)| *is_shown).map(|(_, feature)| feature.into()).collect()
+}
+
+fn assigns(statements: &[Vec<u8>], symbol: u16) -> bool {
+    statements.iter().any(|statement| statement[0] == ASSIGN && statement[3..5] == symbol.to_be_bytes())
+}
+
+/// Whether a statement of the kind is false, in an accepted trace that nothing else ends.
+fn has_false(case: &JudgeCase, kind: u8) -> bool {
+    let mut statements = statements(case);
+    statements.retain(|statement| [ASSIGN, kind].contains(&statement[0]));
+    for statement in statements.iter_mut().filter(|statement| statement[0] == kind) {
+        statement[0] = ASSERT;
+    }
+    is_unsafe(case, &statements)
+}
+
+/// Whether the statements before an offset have a false Assert.
+fn is_unsafe_before(case: &JudgeCase, offset: u32) -> bool {
+    let mut end = 6;
+    let mut statements = statements(case);
+    statements.retain(|statement| {
+        end += 2 + statement.len();
+        end <= offset as usize
+    });
+    is_unsafe(case, &statements)
+}
+
+fn statements(case: &JudgeCase) -> Vec<Vec<u8>> {
+    Parts::of(&case.trace).expect("a whole header").records
+}
+
+fn is_unsafe(case: &JudgeCase, statements: &[Vec<u8>]) -> bool {
+    model::judge(&encoding::trace(case.trace[3], statements), &case.valuation).verdict == 1
+}
