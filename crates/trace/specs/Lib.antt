@@ -2,6 +2,7 @@
 pub mod Trace
 pub mod TraceLaws
 pub mod Judge
+pub mod JudgeLaws
 pub mod Answer
 pub mod Cases
 -- What the code's values mean in these terms.
