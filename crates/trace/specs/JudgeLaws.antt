@@ -6,7 +6,6 @@ use mathlib.Core.List.{List, [], _∷_}
 use lib.ListN.{length, set, length-set}
 use lib.Dec.{eqb}
 use Rattle.expr.specs.Word.{truthy}
-use Rattle.expr.specs.Token.{Token}
 use Rattle.expr.specs.Eval.{Env, envOf, update, value, reads}
 use Rattle.expr.specs.EvalLaws.{value-agree, update-set}
 use Rattle.file.specs.Outcome.{Outcome, Failed}

@@ -13,12 +13,13 @@ use Rattle.expr.specs.Eval.{envOf}
 use Rattle.file.specs.declared.Reading.{Reading}
 use Rattle.file.specs.File.{headerInputs, headerCount, headerReply}
 use Rattle.file.specs.Shown.{listed}
-use Rattle.file.specs.FileLaws.{copy-env}
+use Rattle.file.specs.FileLaws.{header-is, copy-env}
+use Rattle.file.specs.ReadingLaws.{short}
 use Rattle.table.specs.Table.{readTable}
 use Rattle.table.specs.Run.{runFrom}
 use Rattle.table.specs.Answer.{refusal, answerOf, runAnswer}
 use Rattle.table.specs.Shown.{ReadRecords, Ready}
-use Rattle.table.proofs.Answers.{header-refuses, long, short, inputs-few, count-few, offset-small, record-refuses, Accepts, accepts, bound-refused, valuation-refused, ran, is-ready}
+use Rattle.table.proofs.Answers.{header-refuses, offset-small, record-refuses, bound-refused, valuation-refused, ran, is-ready}
 use Rattle.table.proofs.run.Statement.{statement}
 use Rattle.table.proofs.run.Tie as tie
 
@@ -28,6 +29,9 @@ bytes c = all-at Byte (c .before .args .table .now) (λ i h. c .shared-slice-kno
 
 head : (c : tie.Else1) → headerReply 1 1024 (c .before .before .before .before .args .table .now) ≡ 0
 head c = sym (c .before .header-reply .ensures) ∙ c .if1 .left
+
+long : (c : tie.Else1) → 6 ≤ length (c .before .before .before .before .args .table .now)
+long c = header-is 1 1024 (c .before .before .before .before .args .table .now) (head c) .long
 
 -- what is known once the records are read
 module _ (c : tie.After-read-records) where
@@ -46,14 +50,11 @@ module _ (c : tie.After-read-records) where
   abbrev r : Reading
   r = c .read-records .result
 
-  b : All Byte (c .before .before .before .before .before .before .before .before .args .table .now)
-  b = bytes (c .before .before .before .before .before .before .before)
-
   h : headerReply 1 1024 (c .before .before .before .before .before .before .before .before .args .table .now) ≡ 0
   h = head (c .before .before .before .before)
 
   inputs-are : c .before .before .before .byte-at .result ≡ headerInputs (c .before .before .before .before .before .before .before .before .args .table .now)
-  inputs-are = c .before .before .before .byte-at .ensures .0 ∙ byte-at s 3 (omega (arith, long s b h))
+  inputs-are = c .before .before .before .byte-at .ensures .0 ∙ byte-at s 3 (omega (arith, long (c .before .before .before .before)))
 
   count-is : c .before .before .two-at .result ≡ headerCount (c .before .before .before .before .before .before .before .before .args .table .now)
   count-is = c .before .before .two-at .ensures .0
@@ -63,34 +64,31 @@ module _ (c : tie.After-read-records) where
       (subst (λ n. ReadRecords s (c .before .before .before .byte-at .result) n (replicate 1024 0) off r) count-is (c .read-records .ensures))
 
   few-inputs : c .before .before .before .byte-at .result ≤ 64
-  few-inputs = omega (arith, inputs-are, inputs-few s b h)
+  few-inputs = omega (arith, inputs-are, header-is 1 1024 s h .inputs)
 
   small-offset : r .offset < 65536
-  small-offset = omega (arith, offset-small s b h (replicate 1024 0) off r reads, short s b h)
+  small-offset = omega (arith, offset-small s h (replicate 1024 0) off r reads, short 1 1024 s (bytes (c .before .before .before .before .before .before .before)) h)
 
   by-record : (r .reply ≡ 0 → ⊥) → refusal (r .reply) (r .offset) ≡ runAnswer s K words
-  by-record z = record-refuses s b h (replicate 1024 0) off r reads K words z
+  by-record z = record-refuses s h (replicate 1024 0) off r reads K words z
 
   module _ (z : r .reply ≡ 0) where
-    a : Accepts s b h (replicate 1024 0) off r reads
-    a = accepts s b h (replicate 1024 0) off r reads z
-
     by-bound : 255 < K → refusal 8 0 ≡ runAnswer s K words
-    by-bound l = bound-refused s b h (replicate 1024 0) off r reads a K words l
+    by-bound l = bound-refused s h (replicate 1024 0) off r reads z K words l
 
     by-valuation : K ≤ 255 → (length words ≡ c .before .before .before .byte-at .result → ⊥) → refusal 11 0 ≡ runAnswer s K words
-    by-valuation l n = valuation-refused s b h (replicate 1024 0) off r reads a K words l (λ e. n (e ∙ sym inputs-are))
+    by-valuation l n = valuation-refused s h (replicate 1024 0) off r reads z K words l (λ e. n (e ∙ sym inputs-are))
 
     by-run : K ≤ 255 → length words ≡ c .before .before .before .byte-at .result → (vals : List ℕ) → envOf vals ≡ envOf words
         → answerOf (runFrom (listed (readTable s)) K ((K + 1) * (c .before .before .two-at .result + 1)) 0 0 (envOf vals)) ≡ runAnswer s K words
     by-run l e vals v =
         ap (λ n. answerOf (runFrom (listed (readTable s)) K ((K + 1) * (n + 1)) 0 0 (envOf vals))) count-is
-        ∙ ran s b h (replicate 1024 0) off r reads a K words l (e ∙ inputs-are) vals v
+        ∙ ran s h (replicate 1024 0) off r reads z K words l (e ∙ inputs-are) vals v
 
     ready : (vals : List ℕ) → length vals ≡ 64 → Ready s off (c .before .before .two-at .result) vals
     ready vals e =
         subst (λ n. Ready s off n vals) (sym count-is)
-        (is-ready s b h (replicate 1024 0) off r reads a vals (omega (arith, count-few s b h, length-replicate {A = ℕ} 1024 0)) (omega (arith, inputs-few s b h)))
+        (is-ready s h (replicate 1024 0) off r reads z vals (omega (arith, header-is 1 1024 s h .count, length-replicate {A = ℕ} 1024 0)) (omega (arith, header-is 1 1024 s h .inputs)))
 
 header-reply-requires : tie.Need-header-reply-requires
 header-reply-requires c κs = search needs
@@ -105,10 +103,10 @@ returns : tie.Need-returns
 returns c = c .refused .ensures ∙ header-refuses (c .before .before .before .before .before .args .table .now) (c .before .before .before .before .before .args .bound) (c .before .before .before .before .before .args .words .now) _ (c .before .before .header-reply .ensures) (c .before .if1 .taken)
 
 byte-at-requires : tie.Need-byte-at-requires
-byte-at-requires c κs = omega (arith, long (c .before .before .before .before .args .table .now) (bytes (c .before .before .before)) (head c))
+byte-at-requires c κs = omega (arith, long c)
 
 two-at-requires : tie.Need-two-at-requires
-two-at-requires c κs = omega (arith, long (c .before .before .before .before .before .args .table .now) (bytes (c .before .before .before .before)) (head (c .before)))
+two-at-requires c κs = omega (arith, long (c .before))
 
 slice-aggregate-read-records : tie.Need-slice-aggregate-read-records
 slice-aggregate-read-records c = search needs
@@ -116,9 +114,8 @@ slice-aggregate-read-records c = search needs
 read-records-requires : tie.Need-read-records-requires
 read-records-requires c κs =
     let s = c .before .before .before .before .before .before .before .args .table .now in
-    let b = bytes (c .before .before .before .before .before .before) in
-    let h = head (c .before .before .before) in
-    (long s b h, short s b h, omega (arith, count-few s b h, c .before .two-at .ensures .0, length-replicate {A = ℕ} 1024 0))
+    let g = header-is 1 1024 s (head (c .before .before .before)) in
+    (g .long, short 1 1024 s (bytes (c .before .before .before .before .before .before)) (head (c .before .before .before)), omega (arith, g .count, c .before .two-at .ensures .0, length-replicate {A = ℕ} 1024 0))
 
 cast-refused-2 : tie.Need-cast-refused-2
 cast-refused-2 c = search needs
