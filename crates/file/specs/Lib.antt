@@ -1,5 +1,6 @@
 pub mod File
 pub mod FileLaws
+pub mod EncodeLaws
 pub mod RecordLaws
 pub mod WalkLaws
 pub mod ReadingLaws

@@ -1,6 +1,8 @@
 -- What a reader must believe, beside document 01; each definition has its laws beside it.
 pub mod Trace
 pub mod TraceLaws
+pub mod WellFormed
+pub mod EncodeLaws
 pub mod Judge
 pub mod JudgeLaws
 pub mod Answer
