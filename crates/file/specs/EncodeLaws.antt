@@ -1,5 +1,5 @@
 -- Reading and writing undo each other: a file that is read is written again as its bytes; one that is written, within the limits, is read again.
-use Prim.Native.Nat.{ℕ, zero, suc, _+_, _≤_, _<_}
+use Prim.Native.Nat.{ℕ, zero, suc, _+_, _^_, _≤_, _<_}
 use native.Mathlib.Omega.{arith}
 use mathlib.Core.Path.{_≡_, refl, sym, ap, ap₂, _∙_, subst}
 use mathlib.Core.Bool.{cond, _&&_}
@@ -10,9 +10,9 @@ use lib.Dec.{leb, eqb}
 use borrow.Author.Tests.{eq-eqb, le-leb}
 use Rattle.expr.specs.Lists.{All, all-take, all-drop, both-and}
 use Rattle.expr.specs.Number.{Byte, numberOf, bytesOf}
-use Rattle.expr.specs.NumberLaws.{number-written, bytes-read}
-use Rattle.file.specs.File.{headerInputs, headerCount, headerReply, Body, Good, frame, Records, Read, Accepted, recordOf, before, onRecord, records, finish, readFile, recordBytes, recordsBytes, encode}
-use Rattle.file.specs.FileLaws.{frame-there, framed, record-framed, record-good, next-record, Chain, Header, header-is, file-read, file-is}
+use Rattle.expr.specs.NumberLaws.{bytesOf-length, number-written, bytes-read}
+use Rattle.file.specs.File.{headerInputs, headerCount, headerReply, Body, Good, field, frame, Records, Read, Accepted, recordOf, before, onRecord, records, finish, readFile, recordBytes, recordsBytes, encode}
+use Rattle.file.specs.FileLaws.{field-there, frame-there, framed, record-framed, record-good, next-record, Chain, Header, header-is, file-read, file-is}
 
 -- ---- read, then written
 
@@ -128,3 +128,9 @@ file-written bytes version limit body S xs s c m l h =
     ∙ ap (λ b. cond b 0 4) (both-and (leb S 64) (leb (headerCount bs) limit) (le-leb S 64 s) (le-leb (headerCount bs) limit (omega arith))))
     ∙ ap (λ k. finish (length bs) S (body S k r)) n
     ∙ ap (finish (length bs) S) h
+
+-- a field that is written is read again
+pub field-written : {A : Type 0} (k n : ℕ) (rest : List ℕ) (f : ℕ → List ℕ → Body A) → n < 256 ^ k → field k (bytesOf k n ++ rest) f ≡ f n rest
+field-written k n rest f h =
+    field-there k (bytesOf k n ++ rest) f (omega (arith, length-append (bytesOf k n) rest, bytesOf-length k n))
+    ∙ ap₂ f (number-written k n rest h) (drop-at (bytesOf k n) rest k (bytesOf-length k n))

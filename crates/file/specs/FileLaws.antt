@@ -373,8 +373,8 @@ copy-next xs ws s h =
     ∙ sym (sets-snoc xs 0 (take s ws) (getD ws s 0))
     ∙ sym (ap (sets xs 0) (ap (λ n. take n ws) (add-one s) ∙ take-suc ws s 0 h))
 
-zeros : (n x : ℕ) → _≡_ {A = ℕ} (getD (replicate n 0) x 0) 0
-zeros n x = elim (decLt x n) [ yes h ↦ getD-replicate n x 0 0 h | no h ↦ List·getD-eq-default (replicate n 0) 0 {n = x} (omega (arith, length-replicate {A = ℕ} n 0)) ]
+pub same-everywhere : {A : Type 0} (n : ℕ) (a : A) (x : ℕ) → getD (replicate n a) x a ≡ a
+same-everywhere {A} n a x = elim (decLt x n) [ yes h ↦ getD-replicate n x a a h | no h ↦ List·getD-eq-default (replicate n a) a {n = x} (omega (arith, length-replicate {A = A} n a)) ]
 
 -- the values of symbols past the words are 0 in both
 pub copy-env : (n : ℕ) (ws : List ℕ) → length ws ≤ n → envOf (sets (replicate n 0) 0 ws) ≡ envOf ws
@@ -388,7 +388,7 @@ copy-env n ws h = fun-ext (λ x. elim (decLt x (length ws)) [ yes l ↦ sets-at 
         ∙ ap (λ y. getD (ws ++ drop (0 + m) (replicate n 0)) y 0) (let e : x ≡ m + k = omega arith in e)
         ∙ getD-append-add ws (drop (0 + m) (replicate n 0)) k 0
         ∙ getD-drop (0 + m) (replicate n 0) k 0
-        ∙ zeros n (0 + m + k)
+        ∙ same-everywhere n 0 (0 + m + k)
         ∙ sym (List·getD-eq-default ws 0 {n = x} l)
 
 -- ---- fields, rules, expressions

@@ -1,9 +1,11 @@
 -- What the code's values mean: its answers as functions of the definitions.
 use Prim.Native.Nat.{ℕ, zero, suc, _+_, _-_}
-use mathlib.Core.Bool.{Bool, true, false}
+use mathlib.Core.Bool.{Bool, true, false, cond}
 use mathlib.Core.List.{List, [], _∷_}
 use lib.ListN.{length, drop}
+use lib.Dec.{eqb}
 use Rattle.expr.specs.Expr.{Parsed, Whole, Breaks}
+use Rattle.file.specs.Outcome.{Kind, Assume, Assert}
 use Rattle.file.specs.File.{Body, Good, Bad, frame, recordOf, Records, Read, Stop, Input, Accepted, Refused}
 use Rattle.file.specs.declared.Reading.{Reading}
 
@@ -19,6 +21,10 @@ isGood (Bad r) = false
 abbrev pub exprReply : Parsed → ℕ
 exprReply (Whole e) = 0
 exprReply (Breaks bs) = 7
+
+-- a test's kind by its code
+abbrev pub kindOf : (code : ℕ) → Kind
+kindOf k = cond (eqb k 3) Assert Assume
 
 module _ {A St : Type 0} (one : St → List ℕ → Body A) (next : St → A → St) where
   abbrev pub oneMore : Body A → (A → ℕ) → ℕ

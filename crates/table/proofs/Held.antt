@@ -12,11 +12,11 @@ use Rattle.expr.specs.Token.{Token}
 use Rattle.expr.specs.Expr.{below, Whole, parse}
 use Rattle.file.specs.Outcome.{Assume, Assert}
 use Rattle.file.specs.File.{Body, Good, Bad, frame, recordOf}
-use Rattle.file.specs.Shown.{isGood}
+use Rattle.file.specs.Shown.{isGood, kindOf}
 use Rattle.file.specs.RecordLaws.{read-body, body-length, body-some, body-inside, body-part, body-kind, body-number}
 use Rattle.table.specs.Table.{Instr, Assign, Test, IfThenGoto, instr}
 use Rattle.table.specs.TableLaws.{Says, says-assign, says-assume, says-assert, says-goto, says}
-use Rattle.table.specs.Shown.{kindOf, exprStart, exprOf}
+use Rattle.table.specs.Shown.{exprStart, exprOf}
 
 -- ---- the record at an offset
 

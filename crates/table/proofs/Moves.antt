@@ -21,7 +21,8 @@ use Rattle.table.specs.declared.steps.Move.{Move}
 use Rattle.table.specs.declared.steps.Move.the-variants as M
 use Rattle.table.specs.Table.{Instr, Assign, Test, IfThenGoto, instr}
 use Rattle.table.specs.Run.{placeIn, Next, Halt, Go, jump, step}
-use Rattle.table.specs.Shown.{kindOf, moveOf, Moved, exprStart, exprOf, valueIn, stepBody}
+use Rattle.file.specs.Shown.{kindOf}
+use Rattle.table.specs.Shown.{moveOf, Moved, exprStart, exprOf, valueIn, stepBody}
 use Rattle.table.proofs.Held.{Held}
 
 -- a place is small

@@ -8,7 +8,7 @@ use lib.Seq.{sets}
 use lib.Dec.{eqb}
 use Rattle.expr.specs.Token.{Token}
 use Rattle.expr.specs.Eval.{Env, envOf, value}
-use Rattle.file.specs.Outcome.{Kind, Assume, Assert, Lost, verdict, placeOf}
+use Rattle.file.specs.Outcome.{Lost, verdict, placeOf}
 use Rattle.file.specs.File.{headerInputs, headerCount, Body, Good, Bad}
 use Rattle.file.specs.Shown.{readCount, readingOf, offsetsFrom, isAccepted}
 use Rattle.file.specs.declared.Reading.{Reading}
@@ -29,10 +29,6 @@ pub record ReadRecords (table : List ℕ) (S n : ℕ) (before after : List ℕ) 
   pub stored : after ≡ sets before 0 (offsetsFrom (r .count) 6 (drop 6 table))
 
 -- ---- running
-
--- a test's kind by its code
-abbrev pub kindOf : (code : ℕ) → Kind
-kindOf k = cond (eqb k 3) Assert Assume
 
 abbrev pub moveOf : Next → Move
 moveOf (Halt o) = M.End (verdict o) (placeOf o)

@@ -1,6 +1,6 @@
 // Tables: any bytes are read, and an accepted table is run under a bound on its back jumps.
 pub mod read;
-pub mod steps;
+mod steps;
 
 use expr::number;
 ghost use mathlib.Core.Path.{_≡_};

@@ -10,12 +10,12 @@ ghost use lib.ListN.{length, drop};
 ghost use Rattle.expr.specs.Eval.{Env, envOf};
 ghost use Rattle.file.specs.Outcome.{Failed};
 ghost use Rattle.file.specs.File.{recordOf};
-ghost use Rattle.file.specs.Shown.{isGood, listed};
+ghost use Rattle.file.specs.Shown.{isGood, listed, kindOf};
 ghost use Rattle.table.specs.Table.{instr, readTable};
 ghost use Rattle.table.specs.Run.{Halt, runFrom};
 ghost use Rattle.table.specs.Run as Run;
 ghost use Rattle.table.specs.Answer.{refusal, answerOf};
-ghost use Rattle.table.specs.Shown.{exprStart, valueIn, kindOf, moveOf, Moved, stepBody, Ready};
+ghost use Rattle.table.specs.Shown.{exprStart, valueIn, moveOf, Moved, stepBody, Ready};
 
 // After an instruction: go on at an instruction with so many back jumps taken, or end with a verdict and its place.
 enum Move {

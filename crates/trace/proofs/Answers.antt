@@ -1,19 +1,18 @@
 -- The answer to judging, by the way that the code takes to it: the header refuses, a record refuses, the valuation is refused, the trace is judged.
 use Prim.Native.Nat.{ℕ, _+_, _≤_}
-use native.Mathlib.Omega.{arith}
-use native.Mathlib.Decide.{decLt}
 use mathlib.Core.Path.{_≡_, refl, sym, ap, ap₂, _∙_, fun-ext}
-use mathlib.Core.Bool.{Bool, true, false, cond, _||_}
+use mathlib.Core.Bool.{Bool, false, cond, _||_}
 use mathlib.Core.List.{List}
-use lib.ListN.{length, drop, getD, replicate, length-replicate, getD-replicate, List·getD-eq-default}
+use lib.ListN.{length, drop, replicate}
 use lib.Dec.{eqb, ltb}
 use borrow.Author.Tests.{eq-eqb, ne-eqb}
+use Rattle.expr.specs.Lists.{or-false}
 use Rattle.expr.specs.Expr.{below, readable}
 use Rattle.expr.specs.Eval.{envOf}
 use Rattle.file.specs.declared.Reading.{Reading}
 use Rattle.file.specs.File.{headerInputs, headerCount, headerReply, Body, Accepted}
 use Rattle.file.specs.Shown.{isAccepted, listed}
-use Rattle.file.specs.FileLaws.{file-refused}
+use Rattle.file.specs.FileLaws.{same-everywhere, file-refused}
 use Rattle.file.specs.WalkLaws.{Walked}
 use Rattle.file.specs.ReadingLaws as Reading
 use Rattle.trace.specs.Trace.{Stmt, Seen, see, atFirst, stmt, stmtsFrom, stmts, readTrace}
@@ -33,15 +32,8 @@ header-refuses s words r e h = sym (ap (answered words) (file-refused 129 4096 s
 none-marked : (S k : ℕ) → seen S S (replicate k false) ≡ atFirst S
 none-marked S k = ap {B = Seen} (λ f. record { readable = f; least = S }) (fun-ext unmarked)
   where
-    or-false : (b : Bool) → b || false ≡ b
-    or-false true = refl
-    or-false false = refl
-
-    never : (y : ℕ) → getD (replicate k false) y false ≡ false
-    never y = elim (decLt y k) [ yes h ↦ getD-replicate k y false false h | no h ↦ List·getD-eq-default (replicate k false) false {n = y} (omega (arith, length-replicate {A = Bool} k false)) ]
-
     unmarked : (y : ℕ) → readable S (replicate k false) y ≡ below S y
-    unmarked y = ap (λ b. ltb y S || b) (never y) ∙ or-false (ltb y S)
+    unmarked y = ap (λ b. ltb y S || b) (same-everywhere k false y) ∙ or-false (ltb y S)
 
 module _ (s : List ℕ) (head : headerReply 129 4096 s ≡ 0) (k : ℕ) (off off′ : List ℕ) (marks′ : List Bool) (r : Reading)
     (w : ReadRecords s (headerInputs s) (headerCount s) off off′ (replicate k false) marks′ r) where

@@ -12,11 +12,11 @@ use Rattle.expr.specs.Token.{Token}
 use Rattle.expr.specs.Expr.{Whole, parse}
 use Rattle.file.specs.Outcome.{Kind, Assume, Assert}
 use Rattle.file.specs.File.{Body, Good, Bad, frame, recordOf}
-use Rattle.file.specs.Shown.{isGood}
+use Rattle.file.specs.Shown.{isGood, kindOf}
 use Rattle.file.specs.RecordLaws.{read-body, body-length, body-some, body-inside, body-part, body-kind, body-number}
 use Rattle.trace.specs.Trace.{Stmt, Assign, Test, Seen, stmt}
 use Rattle.trace.specs.TraceLaws.{Says, says-assign, says-assume, says-assert, says}
-use Rattle.trace.specs.Shown.{kindOf, exprStart, exprOf}
+use Rattle.trace.specs.Shown.{exprStart, exprOf}
 
 pub record Held (top : ℕ) (σ : Seen) (s : List ℕ) (at : ℕ) : Type 0 where
   pub statement : Stmt

@@ -15,7 +15,8 @@ use Rattle.file.specs.Outcome.{Failed}
 use Rattle.trace.specs.declared.steps.Move.{Move}
 use Rattle.trace.specs.declared.steps.Move.the-variants as M
 use Rattle.trace.specs.Trace.{Stmt, Assign, Test}
-use Rattle.trace.specs.Shown.{loose, held, kindOf, exprStart, exprOf, valueIn, step, stepBody, Moved, endOf}
+use Rattle.file.specs.Shown.{kindOf}
+use Rattle.trace.specs.Shown.{loose, held, exprStart, exprOf, valueIn, step, stepBody, Moved, endOf}
 use Rattle.trace.proofs.Held.{Held}
 
 module _ {s : List ℕ} {at : ℕ} (h : Held 4160 loose s at) where

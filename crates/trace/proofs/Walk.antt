@@ -8,6 +8,7 @@ use lib.ListN.{length, drop, getD, set, length-set}
 use lib.Seq.{getD-set-same, getD-set-other}
 use lib.Dec.{eqb, ltb}
 use borrow.Author.Tests.{eqb-true, eqb-false}
+use Rattle.expr.specs.Lists.{or-right}
 use Rattle.expr.specs.Token.{Token}
 use Rattle.expr.specs.Expr.{readable}
 use Rattle.file.specs.File.{Body, Good, Bad, frame, recordOf}
@@ -21,10 +22,6 @@ use Rattle.trace.specs.Shown.{seen, leastAfter, mark, markedBy, marksFro
 
 -- ---- the array of marks follows the definition's state
 
-or-true : (b : Bool) → b || true ≡ true
-or-true true = refl
-or-true false = refl
-
 marked-readable : (S : ℕ) (marks : List Bool) (x : ℕ) → x < length marks → readable S (set marks x true) ≡ (λ y. eqb y x || readable S marks y)
 marked-readable S marks x h = fun-ext (λ y. go y (eqb y x) refl)
   where
@@ -32,7 +29,7 @@ marked-readable S marks x h = fun-ext (λ y. go y (eqb y x) refl)
     go y true e =
         ap (λ y. ltb y S || getD (set marks x true) y false) (eqb-true y x e)
         ∙ ap (λ b. ltb x S || b) (getD-set-same marks x true false h)
-        ∙ or-true (ltb x S)
+        ∙ or-right (ltb x S) true refl
     go y false e = ap (λ b. ltb y S || b) (getD-set-other marks x y true false (λ z. eqb-false y x e z))
 
 seen-after : (S l : ℕ) (marks : List Bool) (x : Stmt) → ((p y : ℕ) (e : List Token) → x ≡ Assign p y e → y < length marks)

@@ -9,14 +9,14 @@ use borrow.Author.Tests.{le-leb, lt-ltb}
 use Rattle.expr.specs.declared.File.the-variants.{Trace}
 use Rattle.expr.specs.Lists.{All, all-drop}
 use Rattle.expr.specs.Number.{Byte, numberOf, bytesOf}
-use Rattle.expr.specs.NumberLaws.{bytes-read, number-written}
+use Rattle.expr.specs.NumberLaws.{bytes-read}
 use Rattle.expr.specs.Token.{Token, exprBytes}
 use Rattle.expr.specs.Expr.{Whole, parse}
 use Rattle.expr.specs.ExprLaws.{parse-accepted, parse-written}
 use Rattle.file.specs.Outcome.{Assume, Assert, Bound}
-use Rattle.file.specs.File.{Body, Good, field, Accepted, recordsBytes}
-use Rattle.file.specs.FileLaws.{Chain, field-there}
-use Rattle.file.specs.EncodeLaws.{file-same, file-written, records-written}
+use Rattle.file.specs.File.{Good, Accepted, recordsBytes}
+use Rattle.file.specs.FileLaws.{Chain}
+use Rattle.file.specs.EncodeLaws.{file-same, field-written, file-written, records-written}
 use Rattle.trace.specs.Trace.{Stmt, Assign, Test, Seen, atFirst, see, assign, assignAt, testAt, stmt, stmts, readTrace, stmtBytes, encodeTrace}
 use Rattle.trace.specs.WellFormed.{StmtOk, StmtsOk}
 use Rattle.trace.specs.TraceLaws.{Says, says-assign, says-assume, says-assert, says}
@@ -48,17 +48,14 @@ encode-read s S ts o h = file-same stmtBytes (λ S. stmt (S + 4096)) see atFirst
 
 -- ---- written, then read
 
-field-written : (n : ℕ) (rest : List ℕ) (f : ℕ → List ℕ → Body Stmt) → n < 65536 → field 2 (bytesOf 2 n ++ rest) f ≡ f n rest
-field-written n rest f h = field-there 2 (bytesOf 2 n ++ rest) f (omega arith) ∙ ap (λ m. f m rest) (number-written 2 n rest h)
-
 stmt-written : (S : ℕ) → S ≤ 64 → (σ : Seen) (x : Stmt) → StmtOk S σ x → stmt (S + 4096) σ (stmtBytes x) ≡ Good x
 unfolding stmt
 stmt-written S few σ (Assign p x e) (a, b, c, d) =
-    field-written p (bytesOf 2 x ++ exprBytes Trace e) (assignAt (S + 4096) σ) a
-    ∙ field-written x (exprBytes Trace e) (assign (S + 4096) σ p) (omega arith)
+    field-written 2 p (bytesOf 2 x ++ exprBytes Trace e) (assignAt (S + 4096) σ) a
+    ∙ field-written 2 x (exprBytes Trace e) (assign (S + 4096) σ p) (omega arith)
     ∙ rw (le-leb (σ .least) x b, lt-ltb x (S + 4096) c, parse-written Trace (σ .readable) 0 e (d .0) (d .1))
-stmt-written S few σ (Test Assume p e) (a, b, d) = field-written p (exprBytes Trace e) (testAt σ Assume) a ∙ rw (parse-written Trace (σ .readable) 0 e (d .0) (d .1))
-stmt-written S few σ (Test Assert p e) (a, b, d) = field-written p (exprBytes Trace e) (testAt σ Assert) a ∙ rw (parse-written Trace (σ .readable) 0 e (d .0) (d .1))
+stmt-written S few σ (Test Assume p e) (a, b, d) = field-written 2 p (exprBytes Trace e) (testAt σ Assume) a ∙ rw (parse-written Trace (σ .readable) 0 e (d .0) (d .1))
+stmt-written S few σ (Test Assert p e) (a, b, d) = field-written 2 p (exprBytes Trace e) (testAt σ Assert) a ∙ rw (parse-written Trace (σ .readable) 0 e (d .0) (d .1))
 stmt-written S few σ (Test Bound p e) (a, b, d) = absurd b
 
 stmt-some : (x : Stmt) → 0 < length (stmtBytes x)

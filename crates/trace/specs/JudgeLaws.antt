@@ -5,6 +5,7 @@ use mathlib.Core.Bool.{Bool, true, false, cond, _||_}
 use mathlib.Core.List.{List, [], _∷_}
 use lib.ListN.{length, set, length-set}
 use lib.Dec.{eqb}
+use Rattle.expr.specs.Lists.{or-left, or-right}
 use Rattle.expr.specs.Word.{truthy}
 use Rattle.expr.specs.Eval.{Env, envOf, update, value, reads}
 use Rattle.expr.specs.EvalLaws.{value-agree, update-set}
@@ -17,13 +18,6 @@ abbrev pub readsTrace : (x : ℕ) → List Stmt → Bool
 readsTrace x [] = false
 readsTrace x (Assign p y e ∷ ts) = reads x e || readsTrace x ts
 readsTrace x (Test k p e ∷ ts) = reads x e || readsTrace x ts
-
-or-left : (a b : Bool) → a ≡ true → a || b ≡ true
-or-left a b h = ap (λ a. a || b) h
-
-or-right : (a b : Bool) → b ≡ true → a || b ≡ true
-or-right true b h = refl
-or-right false b h = h
 
 pub judge-agree : (ts : List Stmt) (σ τ : Env) → ((x : ℕ) → readsTrace x ts ≡ true → σ x ≡ τ x) → judge ts σ ≡ judge ts τ
 unfolding judge

@@ -10,7 +10,7 @@ use Rattle.expr.specs.Token.{Token}
 use Rattle.expr.specs.Expr.{below, readable}
 use Rattle.expr.specs.Eval.{Env, envOf, update, value}
 use Rattle.expr.specs.Word.{truthy}
-use Rattle.file.specs.Outcome.{Kind, Assume, Assert, Outcome, Lost, Failed, verdict, placeOf}
+use Rattle.file.specs.Outcome.{Outcome, Lost, Failed, verdict, placeOf}
 use Rattle.file.specs.File.{headerCount, Body, Good, Bad, recordOf}
 use Rattle.file.specs.Shown.{readCount, readFold, readingOf, offsetsFrom, isAccepted}
 use Rattle.file.specs.declared.Reading.{Reading}
@@ -58,10 +58,6 @@ loose = record { readable = below 4160; least = 0 }
 
 abbrev pub held : List ℕ → Body Stmt
 held bs = recordOf (stmt 4160 loose) bs
-
--- a test's kind by its code
-abbrev pub kindOf : (code : ℕ) → Kind
-kindOf k = cond (eqb k 3) Assert Assume
 
 -- where the expression begins in a record, by its kind's code
 abbrev pub exprStart : (code : ℕ) → ℕ

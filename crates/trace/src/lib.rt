@@ -1,6 +1,6 @@
 // Traces: any bytes are read, and an accepted trace is judged under a valuation.
 pub mod read;
-pub mod steps;
+mod steps;
 
 use expr::number;
 ghost use mathlib.Core.Path.{_≡_};

@@ -9,11 +9,11 @@ ghost use Prim.Native.Nat.{_<_};
 ghost use lib.ListN.{length, drop};
 ghost use Rattle.expr.specs.Eval.{envOf};
 ghost use Rattle.file.specs.Outcome.{Failed};
-ghost use Rattle.file.specs.Shown.{isGood, listed};
+ghost use Rattle.file.specs.Shown.{isGood, listed, kindOf};
 ghost use Rattle.trace.specs.Trace.{readTrace};
 ghost use Rattle.trace.specs.Judge as Judge;
 ghost use Rattle.trace.specs.Answer.{refusal, answerOf};
-ghost use Rattle.trace.specs.Shown.{held, kindOf, exprStart, valueIn, stepBody, Moved, endOf, Ready};
+ghost use Rattle.trace.specs.Shown.{held, exprStart, valueIn, stepBody, Moved, endOf, Ready};
 
 // After a statement: go on, or end with a verdict and its place.
 enum Move {
