@@ -8,14 +8,12 @@ use lib.ListN.{length, drop, getD}
 use lib.Dec.{eqb}
 use borrow.Author.Tests.{eqb-true}
 use Rattle.expr.specs.declared.File.{File}
-use Rattle.expr.specs.declared.accept.After.{After}
-use Rattle.expr.specs.declared.accept.After.the-variants.{Stop, Next}
 use Rattle.expr.specs.Token.{Token, readToken}
 use Rattle.expr.specs.Expr.{below, pops, Parsed, Whole, Breaks, also, parseFrom, parse}
 use Rattle.expr.specs.ExprLaws.{depthLimit-le, fits-is, end-at}
 use Rattle.expr.specs.Eval.{Env, envOf, step}
 use Rattle.expr.specs.Shown.{popped, turned, goes, isWhole, stackOf, sizeOf, stepped, Stepped, valueFrom, valueOf}
-use Rattle.expr.proofs.Turns.{Went, goes-on, whole-goes}
+use Rattle.expr.proofs.Turns.{Went, whole-goes, whole-went}
 
 whole-also : (t : Token) (p : Parsed) → isWhole (also t p) ≡ isWhole p
 whole-also t (Whole e) = refl
@@ -45,12 +43,7 @@ module _ (F : File) (vals e : List ℕ) where
     ready h = whole-goes F (below (length vals)) depth e at h (v .whole)
 
     pub went : at < length e → (d′ : ℕ) × (m : ℕ) × Went F (below (length vals)) depth e at d′ m
-    went h = go (turned F (below (length vals)) depth (readToken F (drop at e))) refl (ready h)
-      where
-        go : (a : After) → turned F (below (length vals)) depth (readToken F (drop at e)) ≡ a → goes a ≡ true
-            → (d′ : ℕ) × (m : ℕ) × Went F (below (length vals)) depth e at d′ m
-        go Stop q g = absurd (let z : _≡_ {A = ℕ} 0 1 = cc in omega arith)
-        go (Next d′ m) q g = (d′, m, goes-on F (below (length vals)) depth e at h d′ m q)
+    went h = whole-went F (below (length vals)) depth e at h (v .whole)
 
     pub record Turned (w′ : List ℕ) (d m : ℕ) : Type 0 where
       pub some-byte : 1 ≤ m

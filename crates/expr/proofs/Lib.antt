@@ -2,3 +2,4 @@ pub mod Reading
 pub mod Turns
 pub mod Steps
 pub mod Evals
+pub mod Rests

@@ -154,7 +154,7 @@ any-env ρ b w w′ d r h s = go (operator b) h s
     go (some (Bin u)) h s = record { deep = s .deep; stack = s .stack; long = s .long }
     go (some Ite) h s = record { deep = s .deep; stack = s .stack; long = s .long }
 
-pops-none : (b : ℕ) → operator b ≡ none → popsOf b ≡ 0
+pub pops-none : (b : ℕ) → operator b ≡ none → popsOf b ≡ 0
 unfolding popsOf
 pops-none b e = ap popped e
 

@@ -155,6 +155,13 @@ module _ (F : File) (may : ℕ → Bool) (d : ℕ) (s : List ℕ) (i : ℕ) (h :
       go Stop e = let z = ap isWhole (breaks-here e) in cc
       go (Next d′ m) e = refl
 
+  pub whole-went : isWhole (parseFrom F may d 0 (drop i s)) ≡ true → (d′ : ℕ) × (m : ℕ) × Went F may d s i d′ m
+  whole-went q = go (turned F may d (readToken F (drop i s))) refl (whole-goes q)
+    where
+      go : (a : After) → turned F may d (readToken F (drop i s)) ≡ a → goes a ≡ true → (d′ : ℕ) × (m : ℕ) × Went F may d s i d′ m
+      go Stop e g = absurd (let z : _≡_ {A = ℕ} 0 1 = cc in omega arith)
+      go (Next d′ m) e g = (d′, m, goes-on d′ m e)
+
 pub checked-end : (F : File) (may : ℕ → Bool) (d : ℕ) (s : List ℕ) (i : ℕ) → length s ≤ i
     → checked (length s) (parseFrom F may d 0 (drop i s)) ≡ cond (eqb d 1) Fine (Broken (length s))
 checked-end F may d s i h = ap (checked (length s)) (end-at F may d s i h) ∙ go (eqb d 1)

@@ -4,7 +4,7 @@ use mathlib.Core.Path.{_≡_}
 use mathlib.Core.Bool.{Bool, true, false, cond}
 use mathlib.Core.Option.{Option, none, some}
 use mathlib.Core.List.{List, [], _∷_}
-use lib.ListN.{length, getD}
+use lib.ListN.{length, drop, getD}
 use Rattle.expr.specs.declared.File.{File}
 use Rattle.expr.specs.declared.token.Read.{Read}
 use Rattle.expr.specs.declared.token.Read.the-variants as R
@@ -13,8 +13,8 @@ use Rattle.expr.specs.declared.accept.Checked.the-variants.{Fine, Broken
 use Rattle.expr.specs.declared.accept.After.{After}
 use Rattle.expr.specs.declared.accept.After.the-variants.{Stop, Next}
 use Rattle.expr.specs.Word.{unary, binary}
-use Rattle.expr.specs.Token.{Token, Const, Symbol, Un, Bin, Ite, unaryCode, binaryCode, operandCount, operator}
-use Rattle.expr.specs.Expr.{depthLimit, pops, after, fits, Parsed, Whole, Breaks}
+use Rattle.expr.specs.Token.{Token, Const, Symbol, Un, Bin, Ite, unaryCode, binaryCode, operandCount, operator, readToken}
+use Rattle.expr.specs.Expr.{depthLimit, below, pops, after, fits, Parsed, Whole, Breaks}
 use Rattle.expr.specs.Eval.{Env, step, eval, top}
 
 -- ---- reading and checking
@@ -54,6 +54,14 @@ goes (Next d m) = true
 abbrev pub isWhole : Parsed → Bool
 isWhole (Whole e) = true
 isWhole (Breaks bs) = false
+
+abbrev pub tokensOf : Parsed → List Token
+tokensOf (Whole e) = e
+tokensOf (Breaks bs) = []
+
+-- at a place of an expression stands a token that may stand there, above some number of words
+abbrev pub Stands : (F : File) (S : ℕ) (e : List ℕ) (i : ℕ) → Type 0
+Stands F S e i = (d : ℕ) × (goes (turned F (below S) d (readToken F (drop i e))) ≡ true)
 
 -- the first `depth` words of an array, the last first
 unfoldable pub stackOf : (words : List ℕ) (depth : ℕ) → List ℕ

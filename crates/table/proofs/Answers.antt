@@ -9,7 +9,7 @@ use lib.ListN.{length}
 use lib.Dec.{leb, eqb}
 use borrow.Author.Tests.{le-leb, lt-leb, eq-eqb, ne-eqb}
 use Rattle.expr.specs.Eval.{envOf}
-use Rattle.file.specs.File.{headerInputs, headerCount, headerReply, Body, Accepted}
+use Rattle.file.specs.File.{headerInputs, headerCount, headerReply, Body, Input, Accepted, Refused}
 use Rattle.file.specs.Shown.{isAccepted, listed}
 use Rattle.file.specs.FileLaws.{file-refused}
 use Rattle.file.specs.WalkLaws.{Walked}
@@ -23,9 +23,13 @@ use Rattle.table.specs.Shown.{ReadRecords, Ready}
 
 -- ---- the header refuses
 
+pub header-refused : (s : List ℕ) (r : ℕ) → r ≡ headerReply 1 1024 s → (r ≡ 0 → ⊥) → readTable s ≡ Refused r 0
+unfolding readTable
+header-refused s r e h = file-refused 1 1024 instrs s r (sym e) h
+
 pub header-refuses : (s : List ℕ) (K : ℕ) (words : List ℕ) (r : ℕ) → r ≡ headerReply 1 1024 s → (r ≡ 0 → ⊥) → refusal r 0 ≡ runAnswer s K words
-unfolding runAnswer readTable
-header-refuses s K words r e h = sym (ap (answered K words) (file-refused 1 1024 instrs s r (sym e) h))
+unfolding runAnswer
+header-refuses s K words r e h = sym (ap (answered K words) (header-refused s r e h))
 
 -- ---- the records are read
 
@@ -48,9 +52,13 @@ module _ (s : List ℕ) (head : headerReply 1 1024 s ≡ 0) (off off′ : List �
   pub offset-small : r .offset ≤ length s
   offset-small = Reading.offset-small one next tt 1 1024 instrs s head refl off off′ r walked
 
+  pub record-refused : (r .reply ≡ 0 → ⊥) → readTable s ≡ Refused (r .reply) (r .offset)
+  unfolding readTable
+  record-refused h = Reading.refuses one next tt 1 1024 instrs s head refl off off′ r walked h
+
   pub record-refuses : (K : ℕ) (words : List ℕ) → (r .reply ≡ 0 → ⊥) → refusal (r .reply) (r .offset) ≡ runAnswer s K words
-  unfolding runAnswer readTable
-  record-refuses K words h = sym (ap (answered K words) (Reading.refuses one next tt 1 1024 instrs s head refl off off′ r walked h))
+  unfolding runAnswer
+  record-refuses K words h = sym (ap (answered K words) (record-refused h))
 
   module _ (h : r .reply ≡ 0) where
     a : Reading.Accepts 1 1024 instrs s (r .count)
@@ -59,6 +67,9 @@ module _ (s : List ℕ) (head : headerReply 1 1024 s ≡ 0) (off off′ : List �
     is : readTable s ≡ Accepted (headerInputs s) (a .things)
     unfolding readTable
     is = a .is
+
+    pub table-accepted : readTable s ≡ Accepted (headerInputs s) (listed (readTable s))
+    table-accepted = is ∙ ap {B = Input Instr} (Accepted (headerInputs s)) (sym (ap listed is))
 
     opened : (K : ℕ) (words : List ℕ) → runAnswer s K words ≡ cond (leb K 255) (cond (eqb (length words) S) (answerOf (run (a .things) K words)) (refusal 11 0)) (refusal 8 0)
     unfolding runAnswer
@@ -79,11 +90,10 @@ module _ (s : List ℕ) (head : headerReply 1 1024 s ≡ 0) (off off′ : List �
         ∙ ap (λ f. runFrom (a .things) K f 0 0 (envOf words)) (ap₂ (λ x y. x * y) (add-one K) (add-one n ∙ ap suc (sym (a .many)))))
         ∙ sym (opened K words ∙ rw (le-leb K 255 l, eq-eqb (length words) S k))
 
-    pub is-ready : (vals : List ℕ) → headerCount s ≤ length off → headerInputs s ≤ length vals → Ready s off′ (headerCount s) vals
-    is-ready vals l k = record {
+    pub is-ready : headerCount s ≤ length off → Ready s off′ (headerCount s)
+    is-ready l = record {
       accepted = ap isAccepted is;
       count = refl;
       room = Reading.room one next tt 1 1024 instrs s head refl off off′ r walked a l;
       stored = Reading.stored-at one next tt 1 1024 instrs s head refl off off′ r walked a l;
-      symbols = k;
     }

@@ -30,6 +30,7 @@ pub record Held (T n : ℕ) (s : List ℕ) (at : ℕ) : Type 0 where
   pub assigns : getD s (at + 2) 0 ≡ 1 → (instruction ≡ Assign (numberOf 1 (drop (at + 3) s)) (exprOf instruction)) × (numberOf 1 (drop (at + 3) s) < T) × (at + 4 ≤ length s)
   pub jumps : getD s (at + 2) 0 ≡ 4 → (instruction ≡ IfThenGoto (numberOf 2 (drop (at + 3) s)) (exprOf instruction)) × (numberOf 2 (drop (at + 3) s) ≤ n) × (at + 5 ≤ length s)
   pub tests : (getD s (at + 2) 0 ≡ 1 → ⊥) → (getD s (at + 2) 0 ≡ 4 → ⊥) → instruction ≡ Test (kindOf (getD s (at + 2) 0)) (exprOf instruction)
+  pub kinds : (getD s (at + 2) 0 ≡ 1 → ⊥) → (getD s (at + 2) 0 ≡ 4 → ⊥) → (2 ≤ getD s (at + 2) 0) × (getD s (at + 2) 0 ≤ 3)
 
 module _ (T n : ℕ) (s : List ℕ) (at : ℕ) where
   module _ (x : Instr) (g : recordOf (instr T n) (drop at s) ≡ Good x) where
@@ -76,6 +77,7 @@ module _ (T n : ℕ) (s : List ℕ) (at : ℕ) where
           assigns = λ z. (ap {B = Instr} (λ w. Assign w e) v, subst (λ w. w < T) v m, omega (arith, h, long, inside));
           jumps = λ z. absurd (omega arith);
           tests = λ y z. absurd (y c);
+          kinds = λ y z. absurd (y c);
         }
     held x g (says-goto e k h m p) =
         let c : getD s (at + 2) 0 ≡ 4 = sym kind ∙ k in
@@ -91,6 +93,7 @@ module _ (T n : ℕ) (s : List ℕ) (at : ℕ) where
           assigns = λ z. absurd (omega arith);
           jumps = λ z. (ap {B = Instr} (λ w. IfThenGoto w e) v, subst (λ w. w ≤ n) v m, omega (arith, h, long, inside));
           tests = λ y z. absurd (z c);
+          kinds = λ y z. absurd (z c);
         }
     held x g (says-assume e k h p) =
         let c : getD s (at + 2) 0 ≡ 2 = sym kind ∙ k in
@@ -105,6 +108,7 @@ module _ (T n : ℕ) (s : List ℕ) (at : ℕ) where
           assigns = λ z. absurd (omega arith);
           jumps = λ z. absurd (omega arith);
           tests = λ y z. rw (ne-eqb (getD s (at + 2) 0) 3 (λ w. omega arith));
+          kinds = λ y z. (omega arith, omega arith);
         }
     held x g (says-assert e k h p) =
         let c : getD s (at + 2) 0 ≡ 3 = sym kind ∙ k in
@@ -119,6 +123,7 @@ module _ (T n : ℕ) (s : List ℕ) (at : ℕ) where
           assigns = λ z. absurd (omega arith);
           jumps = λ z. absurd (omega arith);
           tests = λ y z. rw (eq-eqb (getD s (at + 2) 0) 3 c);
+          kinds = λ y z. (omega arith, omega arith);
         }
 
   pub held-at : isGood (recordOf (instr T n) (drop at s)) ≡ true → Held T n s at

@@ -9,7 +9,7 @@ use lib.Dec.{eqb}
 use Rattle.expr.specs.Token.{Token}
 use Rattle.expr.specs.Eval.{Env, envOf, value}
 use Rattle.file.specs.Outcome.{Lost, verdict, placeOf}
-use Rattle.file.specs.File.{headerInputs, headerCount, Body, Good, Bad}
+use Rattle.file.specs.File.{headerCount, Body, Good, Bad}
 use Rattle.file.specs.Shown.{readCount, readingOf, offsetsFrom, isAccepted}
 use Rattle.file.specs.declared.Reading.{Reading}
 use Rattle.table.specs.declared.steps.Move.{Move}
@@ -58,10 +58,9 @@ abbrev pub stepBody : (n K i r : ℕ) → Body Instr → Env → Next
 stepBody n K i r (Good x) ρ = step n K i r x ρ
 stepBody n K i r (Bad reply) ρ = Halt Lost
 
--- a table that is ready to run: accepted, its records' offsets stored, and room for every symbol
-pub record Ready (table offsets : List ℕ) (n : ℕ) (vals : List ℕ) : Type 0 where
+-- a table that is accepted, with its n records' offsets stored
+pub record Ready (table offsets : List ℕ) (n : ℕ) : Type 0 where
   pub accepted : isAccepted (readTable table) ≡ true
   pub count : n ≡ headerCount table
   pub room : n ≤ length offsets
   pub stored : (i : ℕ) → i < n → getD offsets i 0 ≡ getD (offsetsFrom n 6 (drop 6 table)) i 0
-  pub symbols : headerInputs table ≤ length vals

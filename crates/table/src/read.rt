@@ -11,7 +11,7 @@ ghost use Rattle.expr.specs.declared.File.the-variants.{Table};
 ghost use Rattle.expr.specs.Expr.{below, parse};
 ghost use Rattle.file.specs.Shown.{replyOf, exprReply};
 ghost use Rattle.table.specs.Table.{instr};
-ghost use Rattle.table.specs.Shown.{ReadRecords};
+ghost use Rattle.table.specs.Shown.{exprStart, ReadRecords};
 
 // The expression from a place of a record on: 0, or 7.
 fn expr_reply(body: &[u8], from: usize, inputs: usize) -> u8
@@ -99,4 +99,17 @@ pub fn read_records(table: &[u8], inputs: usize, n: usize, offsets: &mut [u16]) 
         offset: at,
         count: n,
     }
+}
+
+// Where the expression begins in a record of a kind.
+pub fn expr_start(kind: u8) -> usize
+    ensures { λ r. ⌜ r ≡ exprStart kind ⌝ }
+{
+    if kind == 1 {
+        return 4;
+    }
+    if kind == 4 {
+        return 5;
+    }
+    3
 }

@@ -1,5 +1,6 @@
 // Running an accepted table.
 use super::Answer;
+use super::read;
 use expr::File;
 use expr::eval;
 use expr::number;
@@ -9,13 +10,13 @@ ghost use Prim.Native.Nat.{ℕ, _+_, _*_, _≤_, _<_};
 ghost use lib.ListN.{length, drop};
 ghost use Rattle.expr.specs.Eval.{Env, envOf};
 ghost use Rattle.file.specs.Outcome.{Failed};
-ghost use Rattle.file.specs.File.{recordOf};
+ghost use Rattle.file.specs.File.{headerInputs, recordOf};
 ghost use Rattle.file.specs.Shown.{isGood, listed, kindOf};
 ghost use Rattle.table.specs.Table.{instr, readTable};
 ghost use Rattle.table.specs.Run.{Halt, runFrom};
 ghost use Rattle.table.specs.Run as Run;
 ghost use Rattle.table.specs.Answer.{refusal, answerOf};
-ghost use Rattle.table.specs.Shown.{exprStart, valueIn, moveOf, Moved, stepBody, Ready};
+ghost use Rattle.table.specs.Shown.{valueIn, moveOf, Moved, stepBody, Ready};
 
 // After an instruction: go on at an instruction with so many back jumps taken, or end with a verdict and its place.
 enum Move {
@@ -59,19 +60,6 @@ fn failed(kind: u8, place: u32) -> Move
     Move::End(0, 0)
 }
 
-// Where the expression begins in a record of a kind.
-fn expr_start(kind: u8) -> usize
-    ensures { λ r. ⌜ r ≡ exprStart kind ⌝ }
-{
-    if kind == 1 {
-        return 4;
-    }
-    if kind == 4 {
-        return 5;
-    }
-    3
-}
-
 // The value of the expression in the record at a place.
 fn value_at(table: &[u8], at: usize, n: usize, vals: &[u32]) -> u32
     requires { ⌜ (at < 65536) × (isGood (recordOf (instr (length (now vals)) n) (drop at (now table))) ≡ true) ⌝ }
@@ -79,7 +67,7 @@ fn value_at(table: &[u8], at: usize, n: usize, vals: &[u32]) -> u32
 {
     let end = at + 2 + number::two_at(table, at);
     let kind = table[at + 2];
-    let from = at + expr_start(kind);
+    let from = at + read::expr_start(kind);
     eval::eval_expr(&table[from..end], File::Table, vals)
 }
 
@@ -118,7 +106,7 @@ fn step_at(
 
 // From instruction 0 with the values given.
 pub fn run_from(table: &[u8], offsets: &[u16], n: usize, bound: usize, vals: &mut [u32]) -> Answer
-    requires { ⌜ (bound ≤ 255) × Ready (now table) (now offsets) n (now vals) ⌝ }
+    requires { ⌜ (bound ≤ 255) × Ready (now table) (now offsets) n × (headerInputs (now table) ≤ length (now vals)) ⌝ }
     ensures { λ a. ⌜ a ≡ answerOf (runFrom (listed (readTable (now (table .entry)))) bound ((bound + 1) * (n + 1)) 0 0 (envOf (now (vals .entry)))) ⌝ }
 {
     let mut i: usize = 0;

@@ -83,11 +83,10 @@ module _ (s : List ℕ) (head : headerReply 129 4096 s ≡ 0) (k : ℕ) (off off
         ap answerOf (ap₂ judge (ap listed is) v)
         ∙ sym (opened words ∙ rw (eq-eqb (length words) S e))
 
-    pub is-ready : (cells : List ℕ) → headerCount s ≤ length off → length cells ≡ 4160 → Ready s off′ (headerCount s) cells
-    is-ready cells l e = record {
+    pub is-ready : headerCount s ≤ length off → Ready s off′ (headerCount s)
+    is-ready l = record {
       accepted = ap isAccepted is;
       count = refl;
       room = Reading.room one see first 129 4096 stmts s head body-is off off′ r walked a l;
       stored = Reading.stored-at one see first 129 4096 stmts s head body-is off off′ r walked a l;
-      cell = e;
     }

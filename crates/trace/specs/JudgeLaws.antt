@@ -10,14 +10,8 @@ use Rattle.expr.specs.Word.{truthy}
 use Rattle.expr.specs.Eval.{Env, envOf, update, value, reads}
 use Rattle.expr.specs.EvalLaws.{value-agree, update-set}
 use Rattle.file.specs.Outcome.{Outcome, Failed}
-use Rattle.trace.specs.Trace.{Stmt, Assign, Test}
+use Rattle.trace.specs.Trace.{Stmt, Assign, Test, readsTrace}
 use Rattle.trace.specs.Judge.{judge}
-
--- whether a statement of the trace reads a symbol
-abbrev pub readsTrace : (x : ℕ) → List Stmt → Bool
-readsTrace x [] = false
-readsTrace x (Assign p y e ∷ ts) = reads x e || readsTrace x ts
-readsTrace x (Test k p e ∷ ts) = reads x e || readsTrace x ts
 
 pub judge-agree : (ts : List Stmt) (σ τ : Env) → ((x : ℕ) → readsTrace x ts ≡ true → σ x ≡ τ x) → judge ts σ ≡ judge ts τ
 unfolding judge

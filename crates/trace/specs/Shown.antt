@@ -92,10 +92,9 @@ Moved (On τ) m cells = (m ≡ M.Go) × (envOf cells ≡ τ)
 abbrev pub endOf : Outcome → Move
 endOf o = M.End (verdict o) (placeOf o)
 
--- a trace that is ready to be judged: accepted, its records' offsets stored, a cell for every symbol
-pub record Ready (trace offsets : List ℕ) (n : ℕ) (cells : List ℕ) : Type 0 where
+-- a trace that is accepted, with its n records' offsets stored
+pub record Ready (trace offsets : List ℕ) (n : ℕ) : Type 0 where
   pub accepted : isAccepted (readTrace trace) ≡ true
   pub count : n ≡ headerCount trace
   pub room : n ≤ length offsets
   pub stored : (i : ℕ) → i < n → getD offsets i 0 ≡ getD (offsetsFrom n 6 (drop 6 trace)) i 0
-  pub cell : length cells ≡ 4160

@@ -1,12 +1,13 @@
 -- Document 01, "Table and trace bytes": a trace's statements, the reading of any bytes as a trace, and its writing.
 use Prim.Native.Nat.{ℕ, suc, _+_}
-use mathlib.Core.Bool.{Bool, cond, _&&_, _||_}
+use mathlib.Core.Bool.{Bool, false, cond, _&&_, _||_}
 use mathlib.Core.List.{List, [], _∷_, _++_}
 use lib.Dec.{eqb, leb, ltb}
 use Rattle.expr.specs.declared.File.the-variants.{Trace}
 use Rattle.expr.specs.Number.{bytesOf}
 use Rattle.expr.specs.Token.{Token, exprBytes}
 use Rattle.expr.specs.Expr.{below, parse}
+use Rattle.expr.specs.Eval.{reads}
 use Rattle.file.specs.Outcome.{Kind, Assume, Assert, Bound}
 use Rattle.file.specs.File.{Body, Bad, field, rule, holding, Records, records, Input, readFile, encode}
 
@@ -73,3 +74,11 @@ stmtBytes (Test k p e) = kindCode k ∷ bytesOf 2 p ++ exprBytes Trace e
 
 abbrev pub encodeTrace : (S : ℕ) → List Stmt → List ℕ
 encodeTrace S ts = encode stmtBytes 129 S ts
+
+-- ---- the symbols that are read
+
+-- a statement of the trace reads x
+abbrev pub readsTrace : (x : ℕ) → List Stmt → Bool
+readsTrace x [] = false
+readsTrace x (Assign p y e ∷ ts) = reads x e || readsTrace x ts
+readsTrace x (Test k p e ∷ ts) = reads x e || readsTrace x ts

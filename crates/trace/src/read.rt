@@ -13,7 +13,7 @@ ghost use Rattle.expr.specs.Expr.{readable, parse};
 ghost use Rattle.file.specs.File.{recordOf};
 ghost use Rattle.file.specs.Shown.{replyOf, isGood, exprReply};
 ghost use Rattle.trace.specs.Trace.{stmt};
-ghost use Rattle.trace.specs.Shown.{seen, leastAfter, markedBy, ReadRecords};
+ghost use Rattle.trace.specs.Shown.{exprStart, seen, leastAfter, markedBy, ReadRecords};
 
 // The expression from a place of a record on: 0, or 7.
 fn expr_reply(body: &[u8], from: usize, inputs: usize, assigned: &[bool]) -> u8
@@ -122,4 +122,14 @@ pub fn read_records(
         offset: at,
         count: n,
     }
+}
+
+// Where the expression begins in a record of a kind.
+pub fn expr_start(kind: u8) -> usize
+    ensures { λ r. ⌜ r ≡ exprStart kind ⌝ }
+{
+    if kind == 1 {
+        return 7;
+    }
+    5
 }

@@ -1,5 +1,6 @@
 // Judging an accepted trace.
 use super::Answer;
+use super::read;
 use expr::File;
 use expr::eval;
 use expr::number;
@@ -13,7 +14,7 @@ ghost use Rattle.file.specs.Shown.{isGood, listed, kindOf};
 ghost use Rattle.trace.specs.Trace.{readTrace};
 ghost use Rattle.trace.specs.Judge as Judge;
 ghost use Rattle.trace.specs.Answer.{refusal, answerOf};
-ghost use Rattle.trace.specs.Shown.{held, exprStart, valueIn, stepBody, Moved, endOf, Ready};
+ghost use Rattle.trace.specs.Shown.{held, valueIn, stepBody, Moved, endOf, Ready};
 
 // After a statement: go on, or end with a verdict and its place.
 enum Move {
@@ -42,16 +43,6 @@ fn failed(kind: u8, place: u32) -> Move
     Move::End(0, 0)
 }
 
-// Where the expression begins in a record of a kind.
-fn expr_start(kind: u8) -> usize
-    ensures { λ r. ⌜ r ≡ exprStart kind ⌝ }
-{
-    if kind == 1 {
-        return 7;
-    }
-    5
-}
-
 // The value of the expression in the record at a place.
 fn value_at(trace: &[u8], at: usize, cells: &[u32]) -> u32
     requires { ⌜ (at < 65536) × (length (now cells) ≡ 4160) × (isGood (held (drop at (now trace))) ≡ true) ⌝ }
@@ -59,7 +50,7 @@ fn value_at(trace: &[u8], at: usize, cells: &[u32]) -> u32
 {
     let end = at + 2 + number::two_at(trace, at);
     let kind = trace[at + 2];
-    let from = at + expr_start(kind);
+    let from = at + read::expr_start(kind);
     eval::eval_expr(&trace[from..end], File::Trace, cells)
 }
 
@@ -84,7 +75,7 @@ fn step_at(trace: &[u8], at: usize, cells: &mut [u32]) -> Move
 
 // From the first statement with the values given.
 pub fn judge_from(trace: &[u8], offsets: &[u16], n: usize, cells: &mut [u32]) -> Answer
-    requires { ⌜ Ready (now trace) (now offsets) n (now cells) ⌝ }
+    requires { ⌜ Ready (now trace) (now offsets) n × (length (now cells) ≡ 4160) ⌝ }
     ensures { λ a. ⌜ a ≡ answerOf (Judge.judge (listed (readTrace (now (trace .entry)))) (envOf (now (cells .entry)))) ⌝ }
 {
     let mut k: usize = 0;

@@ -85,10 +85,13 @@ module _ (c : tie.After-read-records) where
         ap (λ n. answerOf (runFrom (listed (readTable s)) K ((K + 1) * (n + 1)) 0 0 (envOf vals))) count-is
         ∙ ran s h (replicate 1024 0) off r reads z K words l (e ∙ inputs-are) vals v
 
-    ready : (vals : List ℕ) → length vals ≡ 64 → Ready s off (c .before .before .two-at .result) vals
-    ready vals e =
-        subst (λ n. Ready s off n vals) (sym count-is)
-        (is-ready s h (replicate 1024 0) off r reads z vals (omega (arith, header-is 1 1024 s h .count, length-replicate {A = ℕ} 1024 0)) (omega (arith, header-is 1 1024 s h .inputs)))
+    ready : Ready s off (c .before .before .two-at .result)
+    ready =
+        subst (λ n. Ready s off n) (sym count-is)
+        (is-ready s h (replicate 1024 0) off r reads z (omega (arith, header-is 1 1024 s h .count, length-replicate {A = ℕ} 1024 0)))
+
+    symbols : (vals : List ℕ) → length vals ≡ 64 → headerInputs s ≤ length vals
+    symbols vals e = omega (arith, header-is 1 1024 s h .inputs)
 
 header-reply-requires : tie.Need-header-reply-requires
 header-reply-requires c κs = search needs
@@ -154,7 +157,7 @@ slice-aggregate-run-from-2 : tie.Need-slice-aggregate-run-from-2
 slice-aggregate-run-from-2 c = search needs
 
 run-from-requires : tie.Need-run-from-requires
-run-from-requires c κs = (c .before .before .before .before .before .before .if3 .left, ready (c .before .before .before .before .before .before .before .before .before) (c .before .before .before .before .before .before .before .if2 .left) _ (ap length (c .before .before .before .copy-words .ensures) ∙ length-sets (replicate 64 0) 0 (c .before .before .before .before .before .before .before .before .before .before .before .before .before .before .before .before .before .args .words .now) ∙ length-replicate {A = ℕ} 64 0))
+run-from-requires c κs = let z = c .before .before .before .before .before .before .before .if2 .left in (c .before .before .before .before .before .before .if3 .left, ready (c .before .before .before .before .before .before .before .before .before) z, symbols (c .before .before .before .before .before .before .before .before .before) z (c .before .before .before .copy-words .last .1 .0) (ap length (c .before .before .before .copy-words .ensures) ∙ length-sets (replicate 64 0) 0 (c .before .before .before .before .before .before .before .before .before .before .before .before .before .before .before .before .before .args .words .now) ∙ length-replicate {A = ℕ} 64 0))
 
 returns-5 : tie.Need-returns-5
 returns-5 c =

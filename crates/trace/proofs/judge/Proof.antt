@@ -81,10 +81,10 @@ module _ (c : tie.After-read-records) where
     by-judging : length words ≡ c .before .before .before .before .byte-at .result → (cells : List ℕ) → envOf cells ≡ envOf words → answerOf (judge (listed (readTrace s)) (envOf cells)) ≡ judgeAnswer s words
     by-judging e cells v = judged s h 4160 (replicate 4096 0) off marks r reads z words (e ∙ inputs-are) cells v
 
-    ready : (cells : List ℕ) → length cells ≡ 4160 → Ready s off (c .before .before .before .two-at .result) cells
-    ready cells e =
-        subst (λ n. Ready s off n cells) (sym count-is)
-        (is-ready s h 4160 (replicate 4096 0) off marks r reads z cells (omega (arith, header-is 129 4096 s h .count, length-replicate {A = ℕ} 4096 0)) e)
+    ready : Ready s off (c .before .before .before .two-at .result)
+    ready =
+        subst (λ n. Ready s off n) (sym count-is)
+        (is-ready s h 4160 (replicate 4096 0) off marks r reads z (omega (arith, header-is 129 4096 s h .count, length-replicate {A = ℕ} 4096 0)))
 
 header-reply-requires : tie.Need-header-reply-requires
 header-reply-requires c κs = search needs
@@ -147,7 +147,7 @@ slice-aggregate-judge-from-2 : tie.Need-slice-aggregate-judge-from-2
 slice-aggregate-judge-from-2 c = search needs
 
 judge-from-requires : tie.Need-judge-from-requires
-judge-from-requires c κs = ready (c .before .before .before .before .before .before .before .before .before) (c .before .before .before .before .before .before .if2 .left) _ (ap length (c .before .before .before .copy-words .ensures) ∙ length-sets (replicate 4160 0) 0 (c .before .before .before .before .before .before .before .before .before .before .before .before .before .before .before .before .before .before .args .words .now) ∙ length-replicate {A = ℕ} 4160 0)
+judge-from-requires c κs = (ready (c .before .before .before .before .before .before .before .before .before) (c .before .before .before .before .before .before .if2 .left), ap length (c .before .before .before .copy-words .ensures) ∙ length-sets (replicate 4160 0) 0 (c .before .before .before .before .before .before .before .before .before .before .before .before .before .before .before .before .before .before .args .words .now) ∙ length-replicate {A = ℕ} 4160 0)
 
 returns-4 : tie.Need-returns-4
 returns-4 c =

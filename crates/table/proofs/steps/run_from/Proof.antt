@@ -34,7 +34,7 @@ module _ (c : tie.After-shared-slice-known Inv-loop μ-loop) where
   counted = is-loaded .table .count ∙ sym (c .before .pre .1 .count)
 
   symbols : (vals : List ℕ) → length vals ≡ length (c .before .args .vals .now) → headerInputs (c .before .args .table .now) ≤ length vals
-  symbols vals e = omega (arith, c .before .pre .1 .symbols)
+  symbols vals e = omega (arith, c .before .pre .2)
 
   few : c .before .args .n ≤ 1024
   few = omega (arith, counted, is-loaded .table .few)

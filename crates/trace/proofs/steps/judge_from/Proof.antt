@@ -19,10 +19,10 @@ abbrev μ-loop : tie.MeasureT-loop
 -- what the loop knows of the trace from the function's entry
 module _ (c : tie.Start Inv-loop μ-loop) where
   is-loaded : Loaded (c .args .trace .now) (listed (readTrace (c .args .trace .now)))
-  is-loaded = loaded (c .args .trace .now) (c .pre .accepted)
+  is-loaded = loaded (c .args .trace .now) (c .pre .0 .accepted)
 
   counted : length (listed (readTrace (c .args .trace .now))) ≡ c .args .n
-  counted = omega (arith, is-loaded .count, c .pre .count)
+  counted = omega (arith, is-loaded .count, c .pre .0 .count)
 
 loop-holds : tie.Need-loop-holds Inv-loop μ-loop
 loop-holds c = start (listed (readTrace (c .before .before .before .args .trace .now))) (c .before .before .before .args .cells .now)
@@ -31,14 +31,14 @@ mul-at : tie.Need-mul-at Inv-loop μ-loop
 mul-at c = omega (arith, c .loop-test .taken, counted (c .before .before .before .before .before), is-loaded (c .before .before .before .before .before) .few)
 
 shared-slice-read-at : tie.Need-shared-slice-read-at Inv-loop μ-loop
-shared-slice-read-at c = omega (arith, c .before .loop-test .taken, c .before .before .before .before .before .before .pre .room)
+shared-slice-read-at c = omega (arith, c .before .loop-test .taken, c .before .before .before .before .before .before .pre .0 .room)
 
 cast-at : tie.Need-cast-at Inv-loop μ-loop
 cast-at c = omega (arith, c .shared-slice-known3 .given (c .before .before .loop .k))
 
 step-at-requires : tie.Need-step-at-requires Inv-loop μ-loop
 step-at-requires c κs =
-    (omega (arith, c .before .shared-slice-known3 .given (c .before .before .before .loop .k)), c .before .before .before .loop .inv .long ∙ c .before .before .before .before .before .before .before .pre .cell, ap isGood (here (c .before .before .before .before .before .before .before .args .trace .now) (c .before .before .before .before .before .before .before .args .offsets .now) (c .before .before .before .before .before .before .before .args .n) _ (is-loaded (c .before .before .before .before .before .before .before)) (c .before .before .before .before .before .before .before .pre .count) (c .before .before .before .before .before .before .before .pre .stored) (c .before .before .before .loop .k) (c .before .before .loop-test .taken) .good))
+    (omega (arith, c .before .shared-slice-known3 .given (c .before .before .before .loop .k)), c .before .before .before .loop .inv .long ∙ c .before .before .before .before .before .before .before .pre .1, ap isGood (here (c .before .before .before .before .before .before .before .args .trace .now) (c .before .before .before .before .before .before .before .args .offsets .now) (c .before .before .before .before .before .before .before .args .n) _ (is-loaded (c .before .before .before .before .before .before .before)) (c .before .before .before .before .before .before .before .pre .0 .count) (c .before .before .before .before .before .before .before .pre .0 .stored) (c .before .before .before .loop .k) (c .before .before .loop-test .taken) .good))
 
 enum-told : tie.Need-enum-told Inv-loop μ-loop
 enum-told c = search needs
@@ -50,7 +50,7 @@ loop-less : tie.Need-loop-less Inv-loop μ-loop
 loop-less c = omega (arith, c .before .before .before .before .before .before .before .loop-test .taken)
 
 loop-again : tie.Need-loop-again Inv-loop μ-loop
-loop-again c = goes-on (c .before .before .before .before .before .before .before .before .before .before .before .before .args .trace .now) (c .before .before .before .before .before .before .before .before .before .before .before .before .args .offsets .now) (c .before .before .before .before .before .before .before .before .before .before .before .before .args .n) _ (is-loaded (c .before .before .before .before .before .before .before .before .before .before .before .before)) (c .before .before .before .before .before .before .before .before .before .before .before .before .pre .count) (c .before .before .before .before .before .before .before .before .before .before .before .before .pre .stored) (c .before .before .before .before .before .before .before .before .before .before .before .before .args .cells .now) (c .before .before .before .before .before .before .before .before .loop .inv) (c .before .before .before .before .before .before .before .loop-test .taken) _ (c .before .before .before .before .step-at .last .1 .1 .0) (c .before .before .before .before .step-at .ensures) (c .before .before .before .before .step-at .kept .1 .1 .0) (c .enum-told .given .1)
+loop-again c = goes-on (c .before .before .before .before .before .before .before .before .before .before .before .before .args .trace .now) (c .before .before .before .before .before .before .before .before .before .before .before .before .args .offsets .now) (c .before .before .before .before .before .before .before .before .before .before .before .before .args .n) _ (is-loaded (c .before .before .before .before .before .before .before .before .before .before .before .before)) (c .before .before .before .before .before .before .before .before .before .before .before .before .pre .0 .count) (c .before .before .before .before .before .before .before .before .before .before .before .before .pre .0 .stored) (c .before .before .before .before .before .before .before .before .before .before .before .before .args .cells .now) (c .before .before .before .before .before .before .before .before .loop .inv) (c .before .before .before .before .before .before .before .loop-test .taken) _ (c .before .before .before .before .step-at .last .1 .1 .0) (c .before .before .before .before .step-at .ensures) (c .before .before .before .before .step-at .kept .1 .1 .0) (c .enum-told .given .1)
 
 enum-known-m : tie.Need-enum-known-m Inv-loop μ-loop
 enum-known-m c = search needs
@@ -59,7 +59,7 @@ same-length : tie.Need-same-length Inv-loop μ-loop
 same-length c = c .before .before .before .before .before .step-at .kept .1 .1 .0 ∙ c .before .before .before .before .before .before .before .before .before .loop .inv .long
 
 returns : tie.Need-returns Inv-loop μ-loop
-returns c = halts (c .before .before .before .before .before .before .before .before .before .before .before .before .before .args .trace .now) (c .before .before .before .before .before .before .before .before .before .before .before .before .before .args .offsets .now) (c .before .before .before .before .before .before .before .before .before .before .before .before .before .args .n) _ (is-loaded (c .before .before .before .before .before .before .before .before .before .before .before .before .before)) (c .before .before .before .before .before .before .before .before .before .before .before .before .before .pre .count) (c .before .before .before .before .before .before .before .before .before .before .before .before .before .pre .stored) (c .before .before .before .before .before .before .before .before .before .before .before .before .before .args .cells .now) (c .before .before .before .before .before .before .before .before .before .loop .inv) (c .before .before .before .before .before .before .before .before .loop-test .taken) _ (c .before .before .before .before .before .step-at .last .1 .1 .0) (c .before .before .before .before .before .step-at .ensures) _ _ (c .before .m .given .1)
+returns c = halts (c .before .before .before .before .before .before .before .before .before .before .before .before .before .args .trace .now) (c .before .before .before .before .before .before .before .before .before .before .before .before .before .args .offsets .now) (c .before .before .before .before .before .before .before .before .before .before .before .before .before .args .n) _ (is-loaded (c .before .before .before .before .before .before .before .before .before .before .before .before .before)) (c .before .before .before .before .before .before .before .before .before .before .before .before .before .pre .0 .count) (c .before .before .before .before .before .before .before .before .before .before .before .before .before .pre .0 .stored) (c .before .before .before .before .before .before .before .before .before .before .before .before .before .args .cells .now) (c .before .before .before .before .before .before .before .before .before .loop .inv) (c .before .before .before .before .before .before .before .before .loop-test .taken) _ (c .before .before .before .before .before .step-at .last .1 .1 .0) (c .before .before .before .before .before .step-at .ensures) _ _ (c .before .m .given .1)
 
 same-length-2 : tie.Need-same-length-2 Inv-loop μ-loop
 same-length-2 c = c .before .loop .inv .long

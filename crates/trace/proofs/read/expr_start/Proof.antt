@@ -1,6 +1,6 @@
 use borrow.Author.Tests.{eq-eqb, ne-eqb}
-use Rattle.trace.proofs.steps.expr_start.Statement.{statement}
-use Rattle.trace.proofs.steps.expr_start.Tie as tie
+use Rattle.trace.proofs.read.expr_start.Statement.{statement}
+use Rattle.trace.proofs.read.expr_start.Tie as tie
 
 returns : tie.Need-returns
 returns c = rw (eq-eqb _ _ (c .if1 .taken))

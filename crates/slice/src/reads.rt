@@ -1,0 +1,41 @@
+// The symbols that an expression reads.
+use super::sets;
+use expr::number;
+ghost use mathlib.Core.Path.{_≡_};
+ghost use mathlib.Core.Bool.{true, _||_};
+ghost use Prim.Native.Nat.{ℕ, _+_, _<_};
+ghost use lib.ListN.{length, drop};
+ghost use Rattle.expr.specs.declared.File.the-variants.{Trace};
+ghost use Rattle.expr.specs.Token.{readToken};
+ghost use Rattle.expr.specs.Expr.{below, parse};
+ghost use Rattle.expr.specs.Eval.{reads};
+ghost use Rattle.expr.specs.Shown.{isWhole, tokensOf, sizeOf, Stands};
+ghost use Rattle.slice.specs.Shown.{inSet, readsRead};
+
+// The symbol of the token at a place, if it is one, becomes needed; the token's bytes.
+fn mark_token(e: &[u8], i: usize, needed: &mut [bool]) -> usize
+    requires { ⌜ (i < length (now e)) × Stands Trace (length (now needed)) (now e) i ⌝ }
+    ensures { λ r. ⌜ (r ≡ sizeOf Trace (readToken Trace (drop i (now (e .entry))))) × ((x : ℕ) → inSet (now (needed .exit)) x ≡ (readsRead x (readToken Trace (drop i (now (e .entry)))) || inSet (now (needed .entry)) x)) ⌝ }
+{
+    let code = e[i];
+    if code == 0x01 {
+        return 5;
+    }
+    if code == 0x03 {
+        sets::mark(number::two_at(e, i + 1), needed);
+        return 3;
+    }
+    1
+}
+
+// The symbols of an expression become needed.
+pub fn mark_reads(e: &[u8], needed: &mut [bool])
+    requires { ⌜ isWhole (parse Trace (below (length (now needed))) (now e)) ≡ true ⌝ }
+    ensures { λ _. ⌜ ((x : ℕ) → inSet (now (needed .exit)) x ≡ (reads x (tokensOf (parse Trace (below (length (now (needed .entry)))) (now (e .entry)))) || inSet (now (needed .entry)) x)) ⌝ }
+{
+    let mut i: usize = 0;
+    while i < e.len() {
+        let size = mark_token(e, i, &mut *needed);
+        i += size;
+    }
+}

@@ -1,0 +1,48 @@
+-- An accepted table whose records' offsets are stored: how large it is, and the instruction that stands at each offset.
+use Prim.Native.Nat.{ℕ, _≤_, _<_}
+use native.Mathlib.Omega.{arith}
+use mathlib.Core.Path.{_≡_, sym, _∙_}
+use mathlib.Core.List.{List, [], _∷_}
+use lib.ListN.{length, drop, getD}
+use Rattle.expr.specs.Lists.{All}
+use Rattle.expr.specs.Number.{Byte}
+use Rattle.file.specs.File.{headerInputs, Good, recordOf}
+use Rattle.file.specs.Shown.{listed}
+use Rattle.file.specs.FileLaws.{file-is}
+use Rattle.file.specs.ReadingLaws.{short}
+use Rattle.table.specs.Table.{Instr, instr, instrs, readTable}
+use Rattle.table.specs.TableLaws.{InstrOk}
+use Rattle.table.specs.Shown.{Ready}
+use Rattle.table.proofs.Running.{Loaded, loaded, here}
+
+-- the instruction i, in a table of at most T symbols
+pub record At (s off : List ℕ) (n T i : ℕ) : Type 0 where
+  pub instruction : Instr
+  pub after : List Instr
+  pub is-here : drop i (listed (readTable s)) ≡ instruction ∷ after
+  pub good : recordOf (instr T n) (drop (getD off i 0) s) ≡ Good instruction
+
+module _ (s off : List ℕ) (n : ℕ) (o : All Byte s) (r : Ready s off n) where
+  is-loaded : Loaded s (headerInputs s) (listed (readTable s))
+  is-loaded = loaded s o (r .accepted)
+
+  pub counted : length (listed (readTable s)) ≡ n
+  counted = is-loaded .table .count ∙ sym (r .count)
+
+  pub few : n ≤ 1024
+  few = omega (arith, counted, is-loaded .table .few)
+
+  pub few-inputs : headerInputs s ≤ 64
+  few-inputs = is-loaded .table .inputs
+
+  pub all-ok : All (InstrOk (headerInputs s) (length (listed (readTable s)))) (listed (readTable s))
+  all-ok = is-loaded .table .ok
+
+  pub small : length s < 65536
+  unfolding readTable
+  small = short 1 1024 s o (file-is 1 1024 instrs s (headerInputs s) (listed (readTable s)) (is-loaded .accepted) .header)
+
+  pub instr-here : (T : ℕ) → headerInputs s ≤ T → (i : ℕ) → i < n → At s off n T i
+  instr-here T l i h =
+      let x = here s off n 0 T (headerInputs s) (listed (readTable s)) is-loaded counted l (r .stored) [] i h in
+      record { instruction = x .instruction; after = x .after; is-here = x .is-here; good = x .good }

@@ -1,0 +1,72 @@
+use borrow.Author.Needs.{needs}
+use Rattle.unwind.proofs.record.put_jump.Statement.{statement}
+use Rattle.unwind.proofs.record.put_jump.Tie as tie
+use mathlib.Core.Path.{_≡_}
+use lib.ListN.{length}
+use Rattle.expr.specs.declared.File.the-variants.{Table, Trace}
+use mathlib.Core.List.{List, [], _∷_, _++_}
+use Rattle.expr.specs.Word.{Zero}
+use Rattle.expr.specs.Token.{Token, Const, Symbol, Un, Ite, exprBytes}
+use Rattle.expr.specs.Expr.{below, parse}
+use Rattle.expr.specs.Shown.{tokensOf}
+use Rattle.expr.specs.Eval.{rename}
+use Rattle.file.specs.Outcome.{Assume}
+use Rattle.file.specs.Shown.{kindOf}
+use Rattle.trace.specs.Trace.{Assign, Test}
+use Rattle.write.specs.SpliceLaws.{_then_}
+use Rattle.unwind.specs.Unwind.{guarded}
+use Rattle.unwind.specs.Size.{exprSize}
+use Rattle.unwind.specs.SizeLaws.{size-rename}
+use Rattle.unwind.specs.Shown.{currentOf}
+use Rattle.unwind.proofs.Records.{closes, assign-bytes, jump-bytes, test-bytes, bound-bytes}
+
+abbrev body : tie.Start → List Token
+body c = tokensOf (parse Table (below (length (c .args .names .now))) (c .args .e .now))
+
+sized : (c : tie.Start) → length (exprBytes Trace (rename (currentOf (c .args .names .now)) (body c))) ≡ exprSize (body c)
+sized c = size-rename (currentOf (c .args .names .now)) (body c)
+
+open-assign-requires : tie.Need-open-assign-requires
+open-assign-requires c κs = search needs
+
+put-guard-requires : tie.Need-put-guard-requires
+put-guard-requires c κs = search needs
+
+put-tokens-requires : tie.Need-put-tokens-requires
+put-tokens-requires c κs = search needs
+
+cast-put-constant : tie.Need-cast-put-constant
+cast-put-constant c = search needs
+
+put-constant-requires : tie.Need-put-constant-requires
+put-constant-requires c κs = search (needs, sized (c .before .before .before .before .before .before .before .before .before .before .before .before .before .before .before .before))
+
+put-old-requires : tie.Need-put-old-requires
+put-old-requires c κs = search (needs, sized (c .before .before .before .before .before .before .before .before .before .before .before .before .before .before .before .before .before .before .before .before))
+
+put-old-requires-2 : tie.Need-put-old-requires-2
+put-old-requires-2 c κs = search (needs, sized (c .before .before .before .before .before .before .before .before .before .before .before .before .before .before .before .before .before .before .before .before .before .before .before .before))
+
+close-requires : tie.Need-close-requires
+close-requires c κs = search (needs, sized (c .before .before .before .before .before .before .before .before .before .before .before .before .before .before .before .before .before .before .before .before .before .before .before .before .before .before .before .before))
+
+same-length : tie.Need-same-length
+same-length c = search needs
+
+returns : tie.Need-returns
+returns c = let a = c .before .before .before .before .before .before .before .before .before .before .before .before .before .before .before .before .before .before .before .before .before .before .before .before .before .before .before .before .before .before .before .args in let e = body (c .before .before .before .before .before .before .before .before .before .before .before .before .before .before .before .before .before .before .before .before .before .before .before .before .before .before .before .before .before .before .before) in closes (Assign (a .j) (a .new) (guarded (a .w) (a .j) ((rename (currentOf (a .names .now)) e) ++ Const (a .goal) ∷ Symbol (a .w) ∷ Ite ∷ []) (Symbol (a .w)))) (c .before .before .before .before .before .before .before .before .before .before .before .before .before .before .before .before .before .before .before .before .before .before .before .before .before .before .open-assign .ensures then c .before .before .before .before .before .before .before .before .before .before .before .before .before .before .before .before .before .before .before .before .before .before .put-guard .ensures then c .before .before .before .before .before .before .before .before .before .before .before .before .before .before .before .before .before .before .put-tokens .ensures then c .before .before .before .before .before .before .before .before .before .before .before .before .before .before .put-constant .ensures then c .before .before .before .before .before .before .before .before .before .before .put-old .ensures then c .before .before .before .before .before .before .put-old2 .ensures) (jump-bytes (a .w) (a .j) (rename (currentOf (a .names .now)) e) (a .new) (a .goal)) (c .before .before .close .ensures)
+
+pub put-jump-spec : {M : Type 1} → statement M
+put-jump-spec =
+    tie.close
+    (tie.spec
+    open-assign-requires
+    put-guard-requires
+    put-tokens-requires
+    cast-put-constant
+    put-constant-requires
+    put-old-requires
+    put-old-requires-2
+    close-requires
+    same-length
+    returns)

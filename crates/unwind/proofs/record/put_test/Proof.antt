@@ -1,0 +1,60 @@
+use borrow.Author.Needs.{needs}
+use Rattle.unwind.proofs.record.put_test.Statement.{statement}
+use Rattle.unwind.proofs.record.put_test.Tie as tie
+use mathlib.Core.Path.{_≡_}
+use lib.ListN.{length}
+use Rattle.expr.specs.declared.File.the-variants.{Table, Trace}
+use mathlib.Core.List.{List, [], _∷_, _++_}
+use Rattle.expr.specs.Word.{Zero}
+use Rattle.expr.specs.Token.{Token, Const, Symbol, Un, Ite, exprBytes}
+use Rattle.expr.specs.Expr.{below, parse}
+use Rattle.expr.specs.Shown.{tokensOf}
+use Rattle.expr.specs.Eval.{rename}
+use Rattle.file.specs.Outcome.{Assume}
+use Rattle.file.specs.Shown.{kindOf}
+use Rattle.trace.specs.Trace.{Assign, Test}
+use Rattle.write.specs.SpliceLaws.{_then_}
+use Rattle.unwind.specs.Unwind.{guarded}
+use Rattle.unwind.specs.Size.{exprSize}
+use Rattle.unwind.specs.SizeLaws.{size-rename}
+use Rattle.unwind.specs.Shown.{currentOf}
+use Rattle.unwind.proofs.Records.{closes, assign-bytes, jump-bytes, test-bytes, bound-bytes}
+
+abbrev body : tie.Start → List Token
+body c = tokensOf (parse Table (below (length (c .args .names .now))) (c .args .e .now))
+
+sized : (c : tie.Start) → length (exprBytes Trace (rename (currentOf (c .args .names .now)) (body c))) ≡ exprSize (body c)
+sized c = size-rename (currentOf (c .args .names .now)) (body c)
+
+open-test-requires : tie.Need-open-test-requires
+open-test-requires c κs = search needs
+
+put-guard-requires : tie.Need-put-guard-requires
+put-guard-requires c κs = search needs
+
+put-tokens-requires : tie.Need-put-tokens-requires
+put-tokens-requires c κs = search needs
+
+put-holds-requires : tie.Need-put-holds-requires
+put-holds-requires c κs = search (needs, sized (c .before .before .before .before .before .before .before .before .before .before .before .before .before .before .before .before))
+
+close-requires : tie.Need-close-requires
+close-requires c κs = search (needs, sized (c .before .before .before .before .before .before .before .before .before .before .before .before .before .before .before .before .before .before .before .before))
+
+same-length : tie.Need-same-length
+same-length c = search needs
+
+returns : tie.Need-returns
+returns c = let a = c .before .before .before .before .before .before .before .before .before .before .before .before .before .before .before .before .before .before .before .before .before .before .before .args in let e = body (c .before .before .before .before .before .before .before .before .before .before .before .before .before .before .before .before .before .before .before .before .before .before .before) in closes (Test (kindOf (a .kind)) (a .j) (guarded (a .w) (a .j) (rename (currentOf (a .names .now)) e) (Const 1))) (c .before .before .before .before .before .before .before .before .before .before .before .before .before .before .before .before .before .before .open-test .ensures then c .before .before .before .before .before .before .before .before .before .before .before .before .before .before .put-guard .ensures then c .before .before .before .before .before .before .before .before .before .before .put-tokens .ensures then c .before .before .before .before .before .before .put-holds .ensures) (test-bytes (a .w) (a .j) (rename (currentOf (a .names .now)) e) (a .kind) (c .before .before .before .before .before .before .before .before .before .before .before .before .before .before .before .before .before .before .before .before .before .before .before .pre .3) (c .before .before .before .before .before .before .before .before .before .before .before .before .before .before .before .before .before .before .before .before .before .before .before .pre .4)) (c .before .before .close .ensures)
+
+pub put-test-spec : {M : Type 1} → statement M
+put-test-spec =
+    tie.close
+    (tie.spec
+    open-test-requires
+    put-guard-requires
+    put-tokens-requires
+    put-holds-requires
+    close-requires
+    same-length
+    returns)

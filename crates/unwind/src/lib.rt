@@ -1,0 +1,117 @@
+// The trace of a table under a bound, written as bytes.
+mod copy;
+mod record;
+mod size;
+mod tokens;
+
+use copy::Front;
+use expr::number;
+use table::read;
+ghost use mathlib.Core.Path.{_≡_};
+ghost use Prim.Native.Nat.{ℕ, _+_, _*_, _≤_};
+ghost use lib.ListN.{length};
+ghost use Rattle.file.specs.Outcome.{Assume};
+ghost use Rattle.file.specs.File.{headerInputs};
+ghost use Rattle.file.specs.Shown.{listed};
+ghost use Rattle.table.specs.Table.{readTable};
+ghost use Rattle.table.specs.Shown.{Ready};
+ghost use Rattle.trace.specs.Trace.{encodeTrace};
+ghost use Rattle.write.specs.Splice.{over};
+ghost use Rattle.unwind.specs.Unwind.{unwind};
+ghost use Rattle.unwind.specs.Size.{traceSize};
+ghost use Rattle.unwind.specs.Answer.{refusal, numbers, TraceWritten};
+ghost use Rattle.unwind.specs.Shown.{currentOf};
+
+// Document 01's answer to writing a trace: a reply and its offset, and the length written.
+pub struct Answer {
+    pub reply: u32,
+    pub offset: u32,
+    pub length: u32,
+}
+
+fn refused(reply: u32, offset: u32) -> Answer
+    ensures { λ r. ⌜ r ≡ numbers (refusal reply offset) ⌝ }
+{
+    Answer {
+        reply: reply,
+        offset: offset,
+        length: 0,
+    }
+}
+
+// At first the current symbol of every program symbol is the input itself.
+fn first_names() -> [u16; 64]
+    ensures { λ r. ⌜ (length r ≡ 64) × ((s : ℕ) → currentOf r s ≡ s) ⌝ }
+{
+    let mut names: [u16; 64] = [0; 64];
+    let mut s: usize = 0;
+    while s < 64 {
+        names[s] = s as u16;
+        s += 1;
+    }
+    names
+}
+
+// The header, the opening and all copies, of a trace whose statements and bytes are counted and fit.
+fn write_all(
+    table: &[u8],
+    offsets: &[u16],
+    inputs: usize,
+    n: usize,
+    bound: usize,
+    count: usize,
+    total: usize,
+    out: &mut [u8],
+)
+    requires { ⌜ Ready (now table) (now offsets) n × (inputs ≡ headerInputs (now table)) × (bound ≤ 255) × (count ≡ 1 + (bound + 1) * (n + 1)) × (count ≤ 4096) × (total ≡ traceSize (listed (readTable (now table))) bound) × (total ≤ length (now out)) ⌝ }
+    ensures { λ _. ⌜ now (out .exit) ≡ over (encodeTrace inputs (unwind Assume inputs (listed (readTable (now (table .entry)))) bound)) (now (out .entry)) ⌝ }
+{
+    let a = write::put_header(129, total, inputs, count, out);
+    let b = record::put_opening(inputs, out, a);
+    let mut names = first_names();
+    let f = Front {
+        control: inputs,
+        next: inputs + 1,
+        to: b,
+    };
+    let _ = copy::write_copies(table, offsets, n, bound, &mut names, f, out);
+}
+
+// Writes the trace of a table under a bound.
+pub fn write_trace(table: &[u8], bound: u64, out: &mut [u8]) -> Answer
+    ensures { λ r. ⌜ TraceWritten (now (table .entry)) bound (now (out .entry)) (now (out .exit)) r ⌝ }
+{
+    let head = file::header_reply(table, 1, 1024);
+    if head != 0 {
+        return refused(head as u32, 0);
+    }
+    let inputs = number::byte_at(table, 3);
+    let n = number::two_at(table, 4);
+    let mut offsets: [u16; 1024] = [0; 1024];
+    let t = read::read_records(table, inputs, n, &mut offsets);
+    let reply = t.reply;
+    if reply != 0 {
+        return refused(reply as u32, t.offset as u32);
+    }
+    if 255 < bound {
+        return refused(8, 0);
+    }
+    let k = bound as usize;
+    let count = 1 + (k + 1) * (n + 1);
+    if 4096 < count {
+        return refused(9, 0);
+    }
+    let total = size::trace_size(table, &offsets, n, k);
+    if 65535 < total {
+        return refused(9, 0);
+    }
+    if out.len() < total {
+        return refused(10, 0);
+    }
+    write_all(table, &offsets, inputs, n, k, count, total, out);
+    Answer {
+        reply: 0,
+        offset: 0,
+        length: total as u32,
+    }
+}

@@ -1,0 +1,3 @@
+-- What writers leave in a buffer.
+pub mod Splice
+pub mod SpliceLaws

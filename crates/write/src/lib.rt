@@ -1,0 +1,78 @@
+// Numbers, a trace's tokens and headers, written into a lent buffer. Each writer gives the next place.
+ghost use mathlib.Core.List.{[], _∷_};
+ghost use Prim.Native.Nat.{_+_, _≤_, _<_};
+ghost use lib.ListN.{length};
+ghost use Rattle.expr.specs.declared.File.the-variants.{Trace};
+ghost use Rattle.expr.specs.Number.{bytesOf};
+ghost use Rattle.expr.specs.Token.{Const, Symbol, tokenBytes};
+ghost use Rattle.file.specs.File.{header};
+ghost use Rattle.write.specs.Splice.{Wrote};
+
+pub fn put_byte(b: u8, out: &mut [u8], at: usize) -> usize
+    requires { ⌜ at + 1 ≤ length (now out) ⌝ }
+    ensures { λ r. ⌜ Wrote (now (out .entry)) at (b ∷ []) (now (out .exit)) r ⌝ }
+{
+    out[at] = b;
+    at + 1
+}
+
+// The last two bytes of a number.
+pub fn put_two(v: usize, out: &mut [u8], at: usize) -> usize
+    requires { ⌜ at + 2 ≤ length (now out) ⌝ }
+    ensures { λ r. ⌜ Wrote (now (out .entry)) at (bytesOf 2 v) (now (out .exit)) r ⌝ }
+{
+    out[at] = (v / 256 % 256) as u8;
+    out[at + 1] = (v % 256) as u8;
+    at + 2
+}
+
+pub fn put_word(v: u32, out: &mut [u8], at: usize) -> usize
+    requires { ⌜ at + 4 ≤ length (now out) ⌝ }
+    ensures { λ r. ⌜ Wrote (now (out .entry)) at (bytesOf 4 v) (now (out .exit)) r ⌝ }
+{
+    out[at] = (v / 16777216 % 256) as u8;
+    out[at + 1] = (v / 65536 % 256) as u8;
+    out[at + 2] = (v / 256 % 256) as u8;
+    out[at + 3] = (v % 256) as u8;
+    at + 4
+}
+
+pub fn put_constant(v: u32, out: &mut [u8], at: usize) -> usize
+    requires { ⌜ at + 5 ≤ length (now out) ⌝ }
+    ensures { λ r. ⌜ Wrote (now (out .entry)) at (tokenBytes Trace (Const v)) (now (out .exit)) r ⌝ }
+{
+    let to = put_byte(0x01, out, at);
+    put_word(v, out, to)
+}
+
+pub fn put_symbol(s: usize, out: &mut [u8], at: usize) -> usize
+    requires { ⌜ at + 3 ≤ length (now out) ⌝ }
+    ensures { λ r. ⌜ Wrote (now (out .entry)) at (tokenBytes Trace (Symbol s)) (now (out .exit)) r ⌝ }
+{
+    let to = put_byte(0x03, out, at);
+    put_two(s, out, to)
+}
+
+// A file's header, from the buffer's first byte.
+pub fn put_header(version: u8, total: usize, inputs: usize, n: usize, out: &mut [u8]) -> usize
+    requires { ⌜ (6 ≤ length (now out)) × (inputs ≤ 64) ⌝ }
+    ensures { λ r. ⌜ Wrote (now (out .entry)) 0 (header version total inputs n) (now (out .exit)) r ⌝ }
+{
+    let a = put_byte(version, out, 0);
+    let b = put_two(total, out, a);
+    let c = put_byte(inputs as u8, out, b);
+    put_two(n, out, c)
+}
+
+// The bytes of a part of another file.
+pub fn put_part(part: &[u8], out: &mut [u8], at: usize) -> usize
+    requires { ⌜ at + length (now part) ≤ length (now out) ⌝ }
+    ensures { λ r. ⌜ Wrote (now (out .entry)) at (now (part .entry)) (now (out .exit)) r ⌝ }
+{
+    let mut i: usize = 0;
+    while i < part.len() {
+        out[at + i] = part[i];
+        i += 1;
+    }
+    at + i
+}
