@@ -6,8 +6,12 @@
  *
  * Replies: 0 done; 1 fewer than 6 bytes; 2 wrong version byte; 3 length field is not the length; 4 inputs or count above the limit;
  * 5 a record is cut short, empty, of unknown kind or lacks fields, or bytes follow the last; 6 a target or an assigned symbol against its
- * rule; 7 an expression against its rules; 8 bound above 255; 11 valuation length is not 4 times the inputs. The offset is that of the
- * refused record's first byte, or of the first spare byte, for 5 to 7, and 0 otherwise. A refusal's other numbers are 0.
+ * rule; 7 an expression against its rules; 8 bound above 255; 9 trace over 4,096 statements or 65,535 bytes; 10 out shorter than the
+ * result; 11 valuation length is not 4 times the inputs. The offset is that of the refused record's first byte, or of the first spare
+ * byte, for 5 to 7, and 0 otherwise. A refusal's other numbers are 0.
+ *
+ * The calls that write fill out from its first byte and leave the rest of it as it was; a refusal leaves all of it. Each of them does so,
+ * whichever number it gives. out must not overlap the file. No result has more than 65,535 bytes, and a slice never more than its trace.
  */
 #ifndef KADVITUL_H
 #define KADVITUL_H
@@ -33,6 +37,21 @@ uint32_t kadvitul_judge_reply(const uint8_t *trace, size_t trace_len, const uint
 uint32_t kadvitul_judge_offset(const uint8_t *trace, size_t trace_len, const uint8_t *valuation, size_t valuation_len);
 uint32_t kadvitul_judge_verdict(const uint8_t *trace, size_t trace_len, const uint8_t *valuation, size_t valuation_len);
 uint32_t kadvitul_judge_place(const uint8_t *trace, size_t trace_len, const uint8_t *valuation, size_t valuation_len);
+
+/* Writing the trace of a table under a bound on its back jumps. The length is that of the trace; judging the trace gives the verdict and
+ * the place of running the table under the same bound. */
+uint32_t kadvitul_trace_reply(const uint8_t *table, size_t table_len, uint64_t bound, uint8_t *out, size_t out_len);
+uint32_t kadvitul_trace_offset(const uint8_t *table, size_t table_len, uint64_t bound, uint8_t *out, size_t out_len);
+uint32_t kadvitul_trace_length(const uint8_t *table, size_t table_len, uint64_t bound, uint8_t *out, size_t out_len);
+
+/* Slicing a trace: the statements that its Asserts depend on. The length is that of the slice, which is a trace too and is judged like the
+ * whole. Bit s of the mask is set when the slice reads input s, and inputs is the count of its ones; no other input changes the verdict or
+ * the place. */
+uint32_t kadvitul_slice_reply(const uint8_t *trace, size_t trace_len, uint8_t *out, size_t out_len);
+uint32_t kadvitul_slice_offset(const uint8_t *trace, size_t trace_len, uint8_t *out, size_t out_len);
+uint32_t kadvitul_slice_length(const uint8_t *trace, size_t trace_len, uint8_t *out, size_t out_len);
+uint32_t kadvitul_slice_inputs(const uint8_t *trace, size_t trace_len, uint8_t *out, size_t out_len);
+uint64_t kadvitul_slice_mask(const uint8_t *trace, size_t trace_len, uint8_t *out, size_t out_len);
 
 #ifdef __cplusplus
 }

@@ -3,7 +3,8 @@
 use std::fmt::{self, Debug, Display};
 
 use crate::archive;
-use crate::model::{self, JudgeAnswer, RunAnswer};
+use crate::model::{self, JudgeAnswer, RunAnswer, SliceAnswer, TraceAnswer};
+use crate::written::{lend, Written};
 
 pub trait Case: Clone + Display {
     type Answer: Debug + PartialEq;
@@ -13,8 +14,19 @@ pub trait Case: Clone + Display {
 
     /// The table or the trace.
     fn file_mut(&mut self) -> &mut Vec<u8>;
-    fn valuation_mut(&mut self) -> &mut Vec<u8>;
-    fn bound_mut(&mut self) -> Option<&mut u64>;
+
+    fn bound_mut(&mut self) -> Option<&mut u64> {
+        None
+    }
+
+    fn valuation_mut(&mut self) -> Option<&mut Vec<u8>> {
+        None
+    }
+
+    /// How many bytes are lent to write into.
+    fn room_mut(&mut self) -> Option<&mut usize> {
+        None
+    }
 }
 
 #[derive(Clone, Debug, PartialEq, Eq)]
@@ -39,12 +51,12 @@ impl Case for RunCase {
         &mut self.table
     }
 
-    fn valuation_mut(&mut self) -> &mut Vec<u8> {
-        &mut self.valuation
-    }
-
     fn bound_mut(&mut self) -> Option<&mut u64> {
         Some(&mut self.bound)
+    }
+
+    fn valuation_mut(&mut self) -> Option<&mut Vec<u8>> {
+        Some(&mut self.valuation)
     }
 }
 
@@ -79,12 +91,8 @@ impl Case for JudgeCase {
         &mut self.trace
     }
 
-    fn valuation_mut(&mut self) -> &mut Vec<u8> {
-        &mut self.valuation
-    }
-
-    fn bound_mut(&mut self) -> Option<&mut u64> {
-        None
+    fn valuation_mut(&mut self) -> Option<&mut Vec<u8>> {
+        Some(&mut self.valuation)
     }
 }
 
@@ -94,6 +102,88 @@ impl Display for JudgeCase {
         writeln!(f, "let valuation = {};", array(&self.valuation))?;
         writeln!(f, "trace in hex: {}", hex(&self.trace))?;
         write!(f, "valuation in hex: {}", hex(&self.valuation))
+    }
+}
+
+#[derive(Clone, Debug, PartialEq, Eq)]
+pub struct TraceCase {
+    pub table: Vec<u8>,
+    pub bound: u64,
+    pub room: usize,
+}
+
+impl Case for TraceCase {
+    type Answer = Written<TraceAnswer>;
+
+    fn model(&self) -> Written<TraceAnswer> {
+        let mut outs = lend(self.room);
+        let answer = model::trace(&self.table, self.bound, &mut outs[0]);
+        Written::new::<1>(answer, outs)
+    }
+
+    fn archive(&self) -> Written<TraceAnswer> {
+        let mut outs = lend(self.room);
+        let answer = archive::trace(&self.table, self.bound, &mut outs);
+        Written::new(answer, outs)
+    }
+
+    fn file_mut(&mut self) -> &mut Vec<u8> {
+        &mut self.table
+    }
+
+    fn bound_mut(&mut self) -> Option<&mut u64> {
+        Some(&mut self.bound)
+    }
+
+    fn room_mut(&mut self) -> Option<&mut usize> {
+        Some(&mut self.room)
+    }
+}
+
+impl Display for TraceCase {
+    fn fmt(&self, f: &mut fmt::Formatter) -> fmt::Result {
+        writeln!(f, "let table = {};", array(&self.table))?;
+        writeln!(f, "let bound: u64 = {};", self.bound)?;
+        writeln!(f, "let room = {};", self.room)?;
+        write!(f, "table in hex: {}", hex(&self.table))
+    }
+}
+
+#[derive(Clone, Debug, PartialEq, Eq)]
+pub struct SliceCase {
+    pub trace: Vec<u8>,
+    pub room: usize,
+}
+
+impl Case for SliceCase {
+    type Answer = Written<SliceAnswer>;
+
+    fn model(&self) -> Written<SliceAnswer> {
+        let mut outs = lend(self.room);
+        let answer = model::slice(&self.trace, &mut outs[0]);
+        Written::new::<1>(answer, outs)
+    }
+
+    fn archive(&self) -> Written<SliceAnswer> {
+        let mut outs = lend(self.room);
+        let answer = archive::slice(&self.trace, &mut outs);
+        Written::new(answer, outs)
+    }
+
+    fn file_mut(&mut self) -> &mut Vec<u8> {
+        &mut self.trace
+    }
+
+    fn room_mut(&mut self) -> Option<&mut usize> {
+        Some(&mut self.room)
+    }
+}
+
+impl Display for SliceCase {
+    fn fmt(&self, f: &mut fmt::Formatter) -> fmt::Result {
+        writeln!(f, "let trace = {};", array(&self.trace))?;
+        writeln!(f, "let room = {};", self.room)?;
+        write!(f, "trace in hex: {}", hex(&self.trace))
     }
 }
 

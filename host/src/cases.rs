@@ -2,7 +2,9 @@
 
 pub mod judging;
 pub mod running;
+pub mod slicing;
 pub mod traces;
+pub mod unwinding;
 
 use std::ops::RangeInclusive;
 

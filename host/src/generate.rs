@@ -1,4 +1,4 @@
-//! Seeded cases of running and judging: one number gives one case, on every machine.
+//! Seeded cases of every call: one number gives one case, on every machine.
 
 pub mod random;
 
@@ -8,6 +8,9 @@ mod expressions;
 mod faults;
 mod rules;
 mod traces;
+mod writing;
+
+pub use writing::{slice_case, sliced_judge_case, trace_case};
 
 use crate::case::{JudgeCase, RunCase};
 use crate::encoding;

@@ -1,6 +1,6 @@
 //! Holds calls to known answers, and the archive to the model on generated cases.
 //!
-//! CASES sets how many are generated and SEED where they begin.
+//! The variable CASES sets how many are generated, in place of a test's own count, and SEED where they begin.
 
 use std::collections::BTreeMap;
 use std::env;
@@ -16,50 +16,56 @@ pub fn hold_known<C: Case>(call: fn(&C) -> C::Answer, known: Vec<Known<C>>) {
 }
 
 /// Asks of the generated cases what is due, each feature in one of so many cases.
-pub fn hold_features<C: Case>(generate: fn(u64) -> C, features: fn(&C, C::Answer) -> Vec<String>, due: &[(&str, u64)]) {
+pub fn hold_features<C: Case>(
+    count: u64,
+    generate: fn(u64) -> C,
+    features: fn(&C, C::Answer) -> Vec<String>,
+    due: &[(&str, u64)],
+) {
     let mut hits = BTreeMap::new();
-    for case in seeds().map(generate) {
+    for case in seeds(count).map(generate) {
         for feature in features(&case, case.model()) {
             *hits.entry(feature).or_insert(0) += 1;
         }
     }
     println!("{hits:#?}");
     for (feature, rarity) in due {
-        let least = case_count() / rarity;
-        let count = hits.get(*feature).copied().unwrap_or(0);
-        assert!(count >= least, "{feature}: {count} cases, fewer than {least}");
+        let least = case_count(count) / rarity;
+        let hits = hits.get(*feature).copied().unwrap_or(0);
+        assert!(hits >= least, "{feature}: {hits} cases, fewer than {least}");
     }
 }
 
-pub fn hold_archive_to_model<C: Case>(generate: fn(u64) -> C) {
-    for seed in seeds() {
-        let case = generate(seed);
-        if differs(&case) {
-            panic!("{}", report(seed, case));
-        }
+pub fn hold_archive_to_model<C: Case>(count: u64, generate: fn(u64) -> C) {
+    let differs = |case: &C| case.archive() != case.model();
+    if let Some((seed, small)) = first_failure(count, generate, differs) {
+        panic!(
+            "seed {seed} gives a case where archive and model differ; made smaller:\n{small}\narchive: {:?}\nmodel:   {:?}",
+            small.archive(),
+            small.model(),
+        );
     }
 }
 
-fn differs(case: &impl Case) -> bool {
-    case.archive() != case.model()
+/// Asks a property of every generated case.
+pub fn hold_property<C: Case>(count: u64, generate: fn(u64) -> C, holds: fn(&C) -> bool) {
+    if let Some((seed, small)) = first_failure(count, generate, |case| !holds(case)) {
+        panic!("seed {seed} gives a case without the property; made smaller:\n{small}");
+    }
 }
 
-fn report(seed: u64, case: impl Case) -> String {
-    let small = shrink(case, differs);
-    format!(
-        "seed {seed} gives a case where archive and model differ; made smaller:\n{small}\narchive: {:?}\nmodel:   {:?}",
-        small.archive(),
-        small.model(),
-    )
+fn first_failure<C: Case>(count: u64, generate: fn(u64) -> C, fails: impl Fn(&C) -> bool) -> Option<(u64, C)> {
+    let (seed, case) = seeds(count).map(|seed| (seed, generate(seed))).find(|(_, case)| fails(case))?;
+    Some((seed, shrink(case, fails)))
 }
 
-fn seeds() -> impl Iterator<Item = u64> {
+fn seeds(count: u64) -> impl Iterator<Item = u64> {
     let first = number("SEED", 1);
-    (0..case_count()).map(move |i| first.wrapping_add(i))
+    (0..case_count(count)).map(move |i| first.wrapping_add(i))
 }
 
-fn case_count() -> u64 {
-    number("CASES", 50_000)
+fn case_count(default: u64) -> u64 {
+    number("CASES", default)
 }
 
 fn number(variable: &str, default: u64) -> u64 {

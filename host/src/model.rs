@@ -1,18 +1,21 @@
-//! What document 01 says of tables and traces, in plain Rust: checked once, then run or judged in place.
+//! What document 01 says of tables and traces, in plain Rust: checked once, then run, unwound, judged or sliced in
+//! place.
 
 mod expression;
 mod file;
 mod judging;
 mod running;
+mod slicing;
 mod table;
 mod trace;
+mod unwinding;
+mod writer;
 
 use file::{Refusal, INPUT_LIMIT};
 use running::Outcome;
+use slicing::Slice;
 use table::{Table, INSTRUCTION_LIMIT};
-use trace::{Trace, SYMBOL_LIMIT};
-
-const BOUND_LIMIT: u64 = 255;
+use trace::{Trace, STATEMENT_LIMIT, SYMBOL_LIMIT};
 
 /// The five numbers of a run. A refusal has all but the first two 0; the verdict is 0 for safe, 1 for unsafe.
 #[derive(Clone, Copy, Debug, Default, PartialEq, Eq)]
@@ -33,6 +36,25 @@ pub struct JudgeAnswer {
     pub place: u32,
 }
 
+/// The three numbers of writing a trace. A refusal has all but the first two 0.
+#[derive(Clone, Copy, Debug, Default, PartialEq, Eq)]
+pub struct TraceAnswer {
+    pub reply: u32,
+    pub offset: u32,
+    pub length: u32,
+}
+
+/// The five numbers of slicing, as those of writing a trace. Bit s of the mask is set when the slice reads input s;
+/// `inputs` counts its ones.
+#[derive(Clone, Copy, Debug, Default, PartialEq, Eq)]
+pub struct SliceAnswer {
+    pub reply: u32,
+    pub offset: u32,
+    pub length: u32,
+    pub inputs: u32,
+    pub mask: u64,
+}
+
 /// Runs a table under a bound; the valuation is four big-endian bytes for each input.
 pub fn run(table: &[u8], bound: u64, valuation: &[u8]) -> RunAnswer {
     match accept_and_run(table, bound, valuation) {
@@ -49,12 +71,27 @@ pub fn run(table: &[u8], bound: u64, valuation: &[u8]) -> RunAnswer {
 fn accept_and_run(bytes: &[u8], bound: u64, valuation: &[u8]) -> Result<Outcome, Refusal> {
     let mut offsets = [0; INSTRUCTION_LIMIT];
     let table = Table::read(bytes, &mut offsets)?;
-    if bound > BOUND_LIMIT {
-        return Err(Refusal::new(8, 0));
-    }
+    let bound = read_bound(bound)?;
     let mut words = [0; INPUT_LIMIT];
     read_valuation(valuation, table.inputs, &mut words)?;
-    Ok(running::run(&table, bound as u32, &mut words))
+    Ok(running::run(&table, bound.into(), &mut words))
+}
+
+/// Writes the trace of a table under a bound from the first byte of `out`.
+pub fn trace(table: &[u8], bound: u64, out: &mut [u8]) -> TraceAnswer {
+    match accept_and_trace(table, bound, out) {
+        Ok(length) => TraceAnswer { length: length as u32, ..TraceAnswer::default() },
+        Err(Refusal { number, offset }) => TraceAnswer { reply: number, offset, ..TraceAnswer::default() },
+    }
+}
+
+fn accept_and_trace(bytes: &[u8], bound: u64, out: &mut [u8]) -> Result<usize, Refusal> {
+    let mut offsets = [0; INSTRUCTION_LIMIT];
+    let table = Table::read(bytes, &mut offsets)?;
+    let bound = read_bound(bound)?.into();
+    let size = unwinding::measure(&table, bound).ok_or(Refusal::new(9, 0))?;
+    unwinding::write(&table, bound, &size, take_room(out, size.length)?);
+    Ok(size.length)
 }
 
 /// Judges a trace under a valuation, four big-endian bytes for each input.
@@ -74,6 +111,33 @@ fn accept_and_judge(bytes: &[u8], valuation: &[u8]) -> Result<Option<u16>, Refus
     let mut cells = [0; SYMBOL_LIMIT];
     read_valuation(valuation, trace.inputs, &mut cells)?;
     Ok(judging::judge(&trace, &mut cells))
+}
+
+/// Writes the slice of a trace from the first byte of `out`.
+pub fn slice(trace: &[u8], out: &mut [u8]) -> SliceAnswer {
+    match accept_and_slice(trace, out) {
+        Ok((length, mask)) => {
+            SliceAnswer { length: length as u32, inputs: mask.count_ones(), mask, ..SliceAnswer::default() }
+        }
+        Err(Refusal { number, offset }) => SliceAnswer { reply: number, offset, ..SliceAnswer::default() },
+    }
+}
+
+fn accept_and_slice(bytes: &[u8], out: &mut [u8]) -> Result<(usize, u64), Refusal> {
+    let trace = Trace::read(bytes)?;
+    let mut offsets = [0; STATEMENT_LIMIT];
+    let slice = Slice::of(&trace, &mut offsets);
+    slice.write(&trace, take_room(out, slice.length)?);
+    Ok((slice.length, slice.mask))
+}
+
+/// A bound of up to 255.
+fn read_bound(bound: u64) -> Result<u8, Refusal> {
+    u8::try_from(bound).map_err(|_| Refusal::new(8, 0))
+}
+
+fn take_room(out: &mut [u8], length: usize) -> Result<&mut [u8], Refusal> {
+    out.get_mut(..length).ok_or(Refusal::new(10, 0))
 }
 
 /// Writes the inputs into the first words.

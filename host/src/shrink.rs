@@ -1,4 +1,5 @@
-//! Makes a failing case smaller as long as it fails: fewer records, bytes, back jumps and inputs, smaller numbers.
+//! Makes a failing case smaller as long as it fails: fewer records, bytes, back jumps and inputs, less
+//! room, smaller numbers.
 
 use std::iter;
 use std::time::{Duration, Instant};
@@ -27,6 +28,7 @@ impl<C: Case, F: Fn(&C) -> bool> Search<C, F> {
     /// Whether anything became smaller.
     fn pass(&mut self) -> bool {
         self.lower_bound()
+            || self.lessen_room()
             || self.drop_records()
             || self.shorten_records()
             || self.shorten_rest()
@@ -72,6 +74,21 @@ impl<C: Case, F: Fn(&C) -> bool> Search<C, F> {
         })
     }
 
+    fn lessen_room(&mut self) -> bool {
+        let Some(&mut room) = self.best.room_mut() else {
+            return false;
+        };
+        lower_numbers(room as u64).any(|less| self.attempt_room(less as usize))
+    }
+
+    fn attempt_room(&mut self, less: usize) -> bool {
+        self.attempt(|case| {
+            if let Some(room) = case.room_mut() {
+                *room = less;
+            }
+        })
+    }
+
     fn drop_records(&mut self) -> bool {
         let Some(parts) = Parts::of(self.best.file_mut()) else {
             return false;
@@ -108,29 +125,43 @@ impl<C: Case, F: Fn(&C) -> bool> Search<C, F> {
         parts.inputs = inputs;
         self.attempt(|case| {
             *case.file_mut() = parts.join();
-            let valuation = case.valuation_mut();
-            valuation.truncate(valuation.len().saturating_sub(4));
+            if let Some(valuation) = case.valuation_mut() {
+                valuation.truncate(valuation.len().saturating_sub(4));
+            }
         })
     }
 
     fn shorten_valuation(&mut self) -> bool {
-        let length = self.best.valuation_mut().len();
-        pieces(length).any(|(start, end)| self.attempt(|case| drop(case.valuation_mut().drain(start..end))))
+        let valuation = self.valuation();
+        pieces(valuation.len())
+            .any(|(start, end)| self.attempt_valuation(|valuation| drop(valuation.drain(start..end))))
     }
 
     fn lower_words(&mut self) -> bool {
-        let words = self.best.valuation_mut().len() / 4;
-        (0..words).any(|i| self.lower_word(4 * i))
+        let valuation = self.valuation();
+        valuation.chunks_exact(4).enumerate().any(|(i, bytes)| self.lower_word(4 * i, bytes))
     }
 
-    fn lower_word(&mut self, start: usize) -> bool {
-        let bytes = &self.best.valuation_mut()[start..start + 4];
+    fn lower_word(&mut self, start: usize, bytes: &[u8]) -> bool {
         let word = u32::from_be_bytes([bytes[0], bytes[1], bytes[2], bytes[3]]);
         if word == 0 {
             return false;
         }
         let lower = (word / 2).to_be_bytes();
-        self.attempt(|case| case.valuation_mut()[start..start + 4].copy_from_slice(&lower))
+        self.attempt_valuation(|valuation| valuation[start..start + 4].copy_from_slice(&lower))
+    }
+
+    fn attempt_valuation(&mut self, edit: impl FnOnce(&mut Vec<u8>)) -> bool {
+        self.attempt(|case| {
+            if let Some(valuation) = case.valuation_mut() {
+                edit(valuation);
+            }
+        })
+    }
+
+    /// Empty where there is none.
+    fn valuation(&mut self) -> Vec<u8> {
+        self.best.valuation_mut().cloned().unwrap_or_default()
     }
 
     /// Lowers targets, places, symbols and constants byte by byte.

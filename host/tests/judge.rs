@@ -12,6 +12,9 @@ const ASSIGN: u8 = 1;
 const ASSUME: u8 = 2;
 const ASSERT: u8 = 3;
 
+/// How many cases are generated for a test.
+const CASES: u64 = 50_000;
+
 /// What generated cases have to show, one in so many.
 const DUE: [(&str, u64); 20] = [
     ("reply 0", 500),
@@ -98,12 +101,12 @@ fn every_unknown_token_is_refused_7_by_the_archive() {
 
 #[test]
 fn the_generated_cases_reach_every_reply_both_verdicts_and_what_they_hide() {
-    hold_features(generate::judge_case, features, &DUE);
+    hold_features(CASES, generate::judge_case, features, &DUE);
 }
 
 #[test]
 fn the_archive_gives_the_models_answer_on_every_case() {
-    hold_archive_to_model(generate::judge_case);
+    hold_archive_to_model(CASES, generate::judge_case);
 }
 
 /// What a case shows, in the words of `DUE`.

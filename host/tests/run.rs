@@ -6,6 +6,9 @@ use host::generate;
 use host::hold::{hold_archive_to_model, hold_features, hold_known};
 use host::model::RunAnswer;
 
+/// How many cases are generated for a test.
+const CASES: u64 = 50_000;
+
 /// What generated cases have to show, one in so many.
 const DUE: [(&str, u64); 21] = [
     ("reply 0", 500),
@@ -98,12 +101,12 @@ fn a_table_of_1024_asserts_has_5126_bytes() {
 
 #[test]
 fn the_generated_cases_reach_every_reply_both_verdicts_and_later_copies() {
-    hold_features(generate::run_case, features, &DUE);
+    hold_features(CASES, generate::run_case, features, &DUE);
 }
 
 #[test]
 fn the_archive_gives_the_models_answer_on_every_case() {
-    hold_archive_to_model(generate::run_case);
+    hold_archive_to_model(CASES, generate::run_case);
 }
 
 /// What a case shows, in the words of `DUE`.

@@ -18,7 +18,7 @@ use Rattle.file.specs.FileLaws.{field-there, frame-there, framed, record
 
 module _ {A St : Type 0} (bytes : A → List ℕ) (one : St → List ℕ → Body A) (next : St → A → St)
     (same : (σ : St) (body : List ℕ) (a : A) → All Byte body → one σ body ≡ Good a → bytes a ≡ body) where
-  record-same : (σ : St) (bs : List ℕ) (a : A) → All Byte bs → recordOf (one σ) bs ≡ Good a → recordBytes bytes a ++ drop (2 + frame bs) bs ≡ bs
+  pub record-same : (σ : St) (bs : List ℕ) (a : A) → All Byte bs → recordOf (one σ) bs ≡ Good a → recordBytes bytes a ++ drop (2 + frame bs) bs ≡ bs
   record-same σ bs a o h =
       let g = record-good (one σ) bs a h in
       let f = framed bs (g .0) in

@@ -16,6 +16,9 @@ use Rattle.expr.specs.Eval.{envOf}
 use Rattle.trace.specs.Trace.{Stmt, readTrace}
 use Rattle.trace.specs.Judge.{judge}
 use Rattle.trace.specs.Answer as Judging
+use Rattle.write.specs.Splice.{over}
+use Rattle.unwind.specs.Answer.{traceAnswer}
+use Rattle.slice.specs.Answer.{sliceAnswer}
 
 -- the first c words of a valuation
 abbrev pub wordsOf : (c : ℕ) → List ℕ → List ℕ
@@ -43,3 +46,10 @@ judgedBytes valuation (Accepted S ts) = cond (eqb (length valuation) (4 * S)) (J
 
 unfoldable pub judgeBytes : (trace valuation : List ℕ) → Judged.Answer
 judgeBytes trace valuation = judgedBytes valuation (readTrace trace)
+
+-- each call for a trace or a slice writes it: the bytes of the answer from the first byte on, and the rest as it was
+abbrev pub TraceLeft : (table : List ℕ) (K : ℕ) (out out′ : List ℕ) → Type 0
+TraceLeft table K out out′ = out′ ≡ over ((traceAnswer table K (length out)) .bytes) out
+
+abbrev pub SliceLeft : (trace out out′ : List ℕ) → Type 0
+SliceLeft trace out out′ = out′ ≡ over ((sliceAnswer trace (length out)) .bytes) out

@@ -4,7 +4,9 @@ ghost use mathlib.Core.Path.{_≡_};
 ghost use Prim.Native.Nat.{_/_, _*_, _≤_};
 ghost use lib.ListN.{length};
 ghost use lib.Seq.{sets};
-ghost use Rattle.kadvitul.specs.Interface.{wordsOf, Decoded, runBytes, judgeBytes};
+ghost use Rattle.unwind.specs.Answer.{traceAnswer};
+ghost use Rattle.slice.specs.Answer.{sliceAnswer};
+ghost use Rattle.kadvitul.specs.Interface.{wordsOf, Decoded, runBytes, judgeBytes, TraceLeft, SliceLeft};
 
 // Stores `count` words of a valuation.
 fn decode(valuation: &[u8], count: usize, words: &mut [u32])
@@ -122,4 +124,68 @@ pub extern "C" fn kadvitul_judge_place(trace: &[u8], valuation: &[u8]) -> u32
 {
     let a = judge_bytes(trace, valuation);
     a.place
+}
+
+#[no_mangle]
+pub extern "C" fn kadvitul_trace_reply(rule: &[u8], bound: u64, out: &mut [u8]) -> u32
+    ensures { λ r. ⌜ (r ≡ (traceAnswer (now (rule .entry)) bound (length (now (out .entry)))) .reply) × TraceLeft (now (rule .entry)) bound (now (out .entry)) (now (out .exit)) ⌝ }
+{
+    let a = unwind::write_trace(rule, bound, out);
+    a.reply
+}
+
+#[no_mangle]
+pub extern "C" fn kadvitul_trace_offset(rule: &[u8], bound: u64, out: &mut [u8]) -> u32
+    ensures { λ r. ⌜ (r ≡ (traceAnswer (now (rule .entry)) bound (length (now (out .entry)))) .offset) × TraceLeft (now (rule .entry)) bound (now (out .entry)) (now (out .exit)) ⌝ }
+{
+    let a = unwind::write_trace(rule, bound, out);
+    a.offset
+}
+
+#[no_mangle]
+pub extern "C" fn kadvitul_trace_length(rule: &[u8], bound: u64, out: &mut [u8]) -> u32
+    ensures { λ r. ⌜ (r ≡ length ((traceAnswer (now (rule .entry)) bound (length (now (out .entry)))) .bytes)) × TraceLeft (now (rule .entry)) bound (now (out .entry)) (now (out .exit)) ⌝ }
+{
+    let a = unwind::write_trace(rule, bound, out);
+    a.length
+}
+
+#[no_mangle]
+pub extern "C" fn kadvitul_slice_reply(trace: &[u8], out: &mut [u8]) -> u32
+    ensures { λ r. ⌜ (r ≡ (sliceAnswer (now (trace .entry)) (length (now (out .entry)))) .reply) × SliceLeft (now (trace .entry)) (now (out .entry)) (now (out .exit)) ⌝ }
+{
+    let a = slice::slice_trace(trace, out);
+    a.reply
+}
+
+#[no_mangle]
+pub extern "C" fn kadvitul_slice_offset(trace: &[u8], out: &mut [u8]) -> u32
+    ensures { λ r. ⌜ (r ≡ (sliceAnswer (now (trace .entry)) (length (now (out .entry)))) .offset) × SliceLeft (now (trace .entry)) (now (out .entry)) (now (out .exit)) ⌝ }
+{
+    let a = slice::slice_trace(trace, out);
+    a.offset
+}
+
+#[no_mangle]
+pub extern "C" fn kadvitul_slice_length(trace: &[u8], out: &mut [u8]) -> u32
+    ensures { λ r. ⌜ (r ≡ length ((sliceAnswer (now (trace .entry)) (length (now (out .entry)))) .bytes)) × SliceLeft (now (trace .entry)) (now (out .entry)) (now (out .exit)) ⌝ }
+{
+    let a = slice::slice_trace(trace, out);
+    a.length
+}
+
+#[no_mangle]
+pub extern "C" fn kadvitul_slice_mask(trace: &[u8], out: &mut [u8]) -> u64
+    ensures { λ r. ⌜ (r ≡ (sliceAnswer (now (trace .entry)) (length (now (out .entry)))) .mask) × SliceLeft (now (trace .entry)) (now (out .entry)) (now (out .exit)) ⌝ }
+{
+    let a = slice::slice_trace(trace, out);
+    a.mask
+}
+
+#[no_mangle]
+pub extern "C" fn kadvitul_slice_inputs(trace: &[u8], out: &mut [u8]) -> u32
+    ensures { λ r. ⌜ (r ≡ (sliceAnswer (now (trace .entry)) (length (now (out .entry)))) .inputs) × SliceLeft (now (trace .entry)) (now (out .entry)) (now (out .exit)) ⌝ }
+{
+    let a = slice::slice_trace(trace, out);
+    a.inputs
 }

@@ -5,13 +5,12 @@ use mathlib.Core.Bool.{Bool, true, false, cond, _||_}
 use mathlib.Core.Option.{Option, none, some}
 use mathlib.Core.List.{List, [], _∷_}
 use lib.ListN.{length, getD, set}
-use lib.Dec.{eqb}
 use Rattle.expr.specs.Token.{Token}
 use Rattle.expr.specs.Eval.{readsToken, reads}
 use Rattle.file.specs.File.{Body, Good, Bad, recordBytes, recordsBytes}
 use Rattle.trace.specs.Trace.{Stmt, Assign, Test, readsTrace, stmtBytes}
 use Rattle.trace.specs.Shown.{exprOf}
-use Rattle.slice.specs.Slice.{isAssert, hasAssert, keep, slice}
+use Rattle.slice.specs.Slice.{isAssert, slice}
 use Rattle.slice.specs.declared.back.Kept.{Kept}
 
 -- ---- a set of symbols

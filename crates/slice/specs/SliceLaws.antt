@@ -223,7 +223,7 @@ slice-smaller (t ∷ ts) = go (keep t ts (slice ts)) (slice-smaller ts)
     go true h = omega (arith, first (slice ts), first ts)
     go false h = omega (arith, first ts)
 
-encode-length : (S : ℕ) (ts : List Stmt) → length (encodeTrace S ts) ≡ 6 + length (recordsBytes stmtBytes ts)
+pub encode-length : (S : ℕ) (ts : List Stmt) → length (encodeTrace S ts) ≡ 6 + length (recordsBytes stmtBytes ts)
 unfolding encode
 encode-length S ts = omega arith
 

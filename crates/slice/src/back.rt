@@ -67,7 +67,7 @@ fn step_back(
     kept: &mut [bool],
     needed: &mut [bool],
 ) -> Kept
-    requires { ⌜ (at < 65536) × (length (now needed) ≡ 4160) × (k < length (now kept)) × (behind .count ≤ 4096) × (behind .size ≤ 268435456) × (isGood (held (drop at (now trace))) ≡ true) ⌝ }
+    requires { ⌜ (at < 65536) × (length (now needed) ≡ 4160) × (k < length (now kept)) × (behind .count ≤ 4096) × (behind .size < 65536) × (isGood (held (drop at (now trace))) ≡ true) ⌝ }
     ensures { λ r. ⌜ Stepped (held (drop at (now (trace .entry)))) (2 + numberOf 2 (drop at (now (trace .entry)))) k behind (now (kept .entry)) (now (needed .entry)) (now (kept .exit)) (now (needed .exit)) r ⌝ }
 {
     if keeps(trace, at, behind.asserts, &*needed) {

@@ -21,7 +21,7 @@ use Rattle.trace.specs.Trace.{Stmt, Assign, Test, Seen, atFirst, see, as
 use Rattle.trace.specs.WellFormed.{StmtOk, StmtsOk}
 use Rattle.trace.specs.TraceLaws.{Says, says-assign, says-assume, says-assert, says}
 
-stmt-same : (S : ℕ) (σ : Seen) (body : List ℕ) (x : Stmt) → All Byte body → stmt (S + 4096) σ body ≡ Good x → stmtBytes x ≡ body
+pub stmt-same : (S : ℕ) (σ : Seen) (body : List ℕ) (x : Stmt) → All Byte body → stmt (S + 4096) σ body ≡ Good x → stmtBytes x ≡ body
 unfolding stmt
 stmt-same S σ [] x o h = absurd (let y : _≡_ {A = ℕ} 0 1 = cc in omega arith)
 stmt-same S σ (b ∷ bs) x o h = go x (says (S + 4096) σ (b ∷ bs) (omega arith) x h)

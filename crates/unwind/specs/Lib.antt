@@ -5,6 +5,7 @@ pub mod UnwindLaws
 pub mod Size
 pub mod SizeLaws
 pub mod Answer
+pub mod Cases
 -- Judging the trace is running the table.
 pub mod Gated
 pub mod GatedLaws

@@ -56,7 +56,7 @@ pub fn limits() -> Vec<KnownJudgement> {
 }
 
 /// Each symbol is the one before with every bit turned; the last is asserted.
-fn turned_4095_times() -> Vec<u8> {
+pub fn turned_4095_times() -> Vec<u8> {
     let turned = |symbol| [&read(symbol)[..], &[NOT]].concat();
     let mut statements: Vec<Vec<u8>> = (1..=4095).map(|symbol| assign(0, symbol, &turned(symbol - 1))).collect();
     statements.push(assert(1, &read(4095)));
@@ -64,7 +64,7 @@ fn turned_4095_times() -> Vec<u8> {
 }
 
 /// A trace of so many bytes that asserts 0, negated again and again.
-fn negated_to(length: usize) -> Vec<u8> {
+pub fn negated_to(length: usize) -> Vec<u8> {
     let mut condition = CONSTANT_0.to_vec();
     let rest = length - encoding::trace(0, &[assert(1, &condition)]).len();
     condition.extend(vec![NEG; rest]);

@@ -136,7 +136,7 @@ fn unreadable(random: &mut Random, draft: &Draft, i: usize) -> u16 {
     }
 }
 
-fn damage_bytes(random: &mut Random, file: &mut Vec<u8>, form: Form) {
+pub fn damage_bytes(random: &mut Random, file: &mut Vec<u8>, form: Form) {
     if file.len() < HEADER_LENGTH {
         return;
     }

@@ -1,11 +1,13 @@
 //! Document 01, "Arithmetic": the postfix expressions of tables and traces, over 32-bit words.
 
-const CONSTANT: u8 = 0x01;
+use std::iter;
+
+pub const CONSTANT: u8 = 0x01;
 const TABLE_SYMBOL: u8 = 0x02;
-const TRACE_SYMBOL: u8 = 0x03;
+pub const TRACE_SYMBOL: u8 = 0x03;
 const NOT: u8 = 0x10;
 const NEG: u8 = 0x11;
-const ZERO: u8 = 0x12;
+pub const ZERO: u8 = 0x12;
 const ADD: u8 = 0x20;
 const SUB: u8 = 0x21;
 const MUL: u8 = 0x22;
@@ -19,8 +21,8 @@ const LSHR: u8 = 0x29;
 const EQUAL: u8 = 0x2A;
 const ULT: u8 = 0x2B;
 const SLT: u8 = 0x2C;
-const ULE: u8 = 0x2D;
-const ITE: u8 = 0x30;
+pub const ULE: u8 = 0x2D;
+pub const ITE: u8 = 0x30;
 
 /// What the expressions of tables and of traces differ in.
 pub trait Form {
@@ -56,7 +58,7 @@ impl Form for InTrace {
     }
 }
 
-enum Token {
+pub enum Token {
     Constant(u32),
     Symbol(usize),
     Operator(u8),
@@ -72,6 +74,23 @@ fn split_token<F: Form>(bytes: &[u8]) -> Option<(Token, &[u8])> {
         [operator @ (NOT..=ZERO | ADD..=ULE | ITE), ref rest @ ..] => Some((Token::Operator(operator), rest)),
         _ => None,
     }
+}
+
+/// The tokens of an accepted expression.
+pub fn tokens<F: Form>(mut bytes: &[u8]) -> impl Iterator<Item = Token> + '_ {
+    iter::from_fn(move || {
+        let (token, rest) = split_token::<F>(bytes)?;
+        bytes = rest;
+        Some(token)
+    })
+}
+
+/// The symbols that an accepted expression reads.
+pub fn symbols<F: Form>(bytes: &[u8]) -> impl Iterator<Item = usize> + '_ {
+    tokens::<F>(bytes).filter_map(|token| match token {
+        Token::Symbol(symbol) => Some(symbol),
+        Token::Constant(_) | Token::Operator(_) => None,
+    })
 }
 
 /// Whether the bytes are one expression that reads only what it may.

@@ -1,5 +1,9 @@
 //! Document 01, "Table and trace bytes" and "Numbered replies": what tables and traces have in common.
 
+use std::ops::Range;
+
+use super::writer::Writer;
+
 pub const INPUT_LIMIT: usize = 64;
 pub const HEADER_LENGTH: usize = 6;
 
@@ -36,6 +40,13 @@ impl Header {
         }
         Ok(Header { inputs, count })
     }
+
+    pub fn write(&self, version: u8, length: usize, writer: &mut Writer) {
+        writer.put([version]);
+        writer.put_number(length as u16);
+        writer.put([self.inputs]);
+        writer.put_number(self.count);
+    }
 }
 
 /// An instruction or a statement: a record's kind with its fields.
@@ -47,7 +58,8 @@ pub trait Action: Sized {
 pub struct Record<'a, A> {
     pub action: A,
     pub expression: &'a [u8],
-    pub end: usize,
+    /// Where it stands in the file, with its length.
+    pub range: Range<usize>,
 }
 
 impl<'a, A: Action> Record<'a, A> {
@@ -56,7 +68,7 @@ impl<'a, A: Action> Record<'a, A> {
         let (length, rest) = bytes[offset..].split_first_chunk()?;
         let body = rest.get(..u16::from_be_bytes(*length).into())?;
         let (action, expression) = A::split(body)?;
-        Some(Record { action, expression, end: offset + 2 + body.len() })
+        Some(Record { action, expression, range: offset..offset + 2 + body.len() })
     }
 }
 
@@ -80,7 +92,7 @@ pub fn check_records(bytes: &[u8], count: u16, rules: &mut impl Rules) -> Result
     for i in 0..count.into() {
         let record = check_record(bytes, offset, rules)?;
         rules.note(i, offset, record.action);
-        offset = record.end;
+        offset = record.range.end;
     }
     if offset != bytes.len() {
         return Err(Refusal::new(5, offset));

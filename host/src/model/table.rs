@@ -26,6 +26,10 @@ impl<'a> Table<'a> {
         self.offsets.len()
     }
 
+    pub fn records(&self) -> impl Iterator<Item = Record<'a, Instruction>> + '_ {
+        (0..self.instruction_count()).map(|i| self.record(i))
+    }
+
     pub fn record(&self, i: usize) -> Record<'a, Instruction> {
         Record::at(self.bytes, self.offsets[i].into()).expect("the table was accepted")
     }

@@ -5,15 +5,18 @@ use std::ops::Range;
 use super::expression::{self, InTrace};
 use super::file::{check_records, Action, Header, Record, Refusal, Rules, HEADER_LENGTH, INPUT_LIMIT};
 
+pub const VERSION: u8 = 129;
+pub const STATEMENT_LIMIT: usize = 4096;
 pub const SYMBOL_LIMIT: usize = INPUT_LIMIT + STATEMENT_LIMIT;
 
-const STATEMENT_LIMIT: usize = 4096;
-const VERSION: u8 = 129;
+pub const ASSIGN: u8 = 1;
+pub const ASSUME: u8 = 2;
+pub const ASSERT: u8 = 3;
 
 pub struct Trace<'a> {
     pub inputs: u8,
-    count: u16,
-    bytes: &'a [u8],
+    pub count: u16,
+    pub bytes: &'a [u8],
 }
 
 impl<'a> Trace<'a> {
@@ -24,12 +27,17 @@ impl<'a> Trace<'a> {
     }
 
     pub fn records(&self) -> impl Iterator<Item = Record<'a, Statement>> + '_ {
-        let mut offset = HEADER_LENGTH;
+        let mut offset = HEADER_LENGTH as u16;
         (0..self.count).map(move |_| {
-            let record = Record::at(self.bytes, offset).expect("the trace was accepted");
-            offset = record.end;
+            let record = self.record(offset);
+            offset = record.range.end as u16;
             record
         })
+    }
+
+    /// The record at its offset.
+    pub fn record(&self, offset: u16) -> Record<'a, Statement> {
+        Record::at(self.bytes, offset.into()).expect("the trace was accepted")
     }
 }
 
@@ -42,12 +50,12 @@ pub enum Statement {
 impl Action for Statement {
     fn split(body: &[u8]) -> Option<(Statement, &[u8])> {
         match *body {
-            [1, _, _, high, low, ref expression @ ..] => {
+            [ASSIGN, _, _, high, low, ref expression @ ..] => {
                 let symbol = u16::from_be_bytes([high, low]);
                 Some((Statement::Assign { symbol }, expression))
             }
-            [2, _, _, ref expression @ ..] => Some((Statement::Assume, expression)),
-            [3, high, low, ref expression @ ..] => {
+            [ASSUME, _, _, ref expression @ ..] => Some((Statement::Assume, expression)),
+            [ASSERT, high, low, ref expression @ ..] => {
                 let place = u16::from_be_bytes([high, low]);
                 Some((Statement::Assert { place }, expression))
             }

@@ -1,15 +1,14 @@
 use Rattle.slice.proofs.back.has_assert.Statement.{statement}
 use Rattle.slice.proofs.back.has_assert.Tie as tie
-use Rattle.slice.proofs.back.has_assert.Reads as reads
-use Rattle.slice.proofs.back.has_assert.Lts as lts
+use mathlib.Core.Path.{sym, ap}
+use mathlib.Core.Bool.{_||_}
+use borrow.Author.Tests.{eq-eqb, ne-eqb}
 
--- src/back.rt:56:9
 returns : tie.Need-returns
-returns c = ?
+returns c = sym (ap (λ b. b || c .before .args .asserts) (eq-eqb _ _ (c .if1 .taken)))
 
--- src/back.rt:52:1
 returns-2 : tie.Need-returns-2
-returns-2 c = ?
+returns-2 c = sym (ap (λ b. b || c .before .args .asserts) (ne-eqb _ _ (c .if1 .left)))
 
 pub has-assert-spec : {M : Type 1} → statement M
 has-assert-spec = tie.close (tie.spec returns returns-2)

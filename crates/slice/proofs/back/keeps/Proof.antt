@@ -1,42 +1,39 @@
 use borrow.Author.Needs.{needs}
 use Rattle.slice.proofs.back.keeps.Statement.{statement}
 use Rattle.slice.proofs.back.keeps.Tie as tie
-use Rattle.slice.proofs.back.keeps.Reads as reads
-use Rattle.slice.proofs.back.keeps.Lts as lts
-use Rattle.expr.proofs.number.two_at.Reads as two-at-reads
-use Rattle.slice.proofs.sets.ask.Reads as ask-reads
+use Rattle.trace.specs.Shown.{loose}
+use Rattle.trace.proofs.Held.{Held, held-at}
+use native.Mathlib.Omega.{arith}
+use mathlib.Core.Path.{_∙_}
+use Rattle.slice.specs.Shown.{inSet}
+use Rattle.slice.proofs.Records.{keeps-assign, keeps-assert, keeps-assume}
 
--- src/back.rt:29:22
+here : (c : tie.Start) → Held 4160 loose (c .args .trace .now) (c .args .at)
+here c = held-at 4160 loose (c .args .trace .now) (c .args .at) (c .pre .2)
+
 add-kind : tie.Need-add-kind
 add-kind c = search needs
 
--- src/back.rt:29:16
 shared-slice-read-kind : tie.Need-shared-slice-read-kind
-shared-slice-read-kind c = ?
+shared-slice-read-kind c = here (c .before .before .before) .kind-there
 
--- src/back.rt:31:44
 add-two-at : tie.Need-add-two-at
 add-two-at c = search needs
 
--- src/back.rt:31:13
 two-at-requires : tie.Need-two-at-requires
-two-at-requires c κs = ?
+two-at-requires c κs = omega (arith, here (c .before .before .before .before) .assigns (c .if1 .taken) .2)
 
--- src/back.rt:32:9
 ask-requires : tie.Need-ask-requires
-ask-requires c κs = ?
+ask-requires c κs = omega (arith, here (c .before .before .before .before .before) .assigns (c .before .if1 .taken) .1, c .two-at .ensures .0, c .before .before .before .before .before .pre .1)
 
--- src/back.rt:32:9
 returns : tie.Need-returns
-returns c = ?
+returns c = c .ask .ensures ∙ keeps-assign (here (c .before .before .before .before .before .before)) (c .before .before .before .before .before .before .args .asserts) (inSet (c .before .before .before .before .before .before .args .needed .now)) (c .before .before .if1 .taken) _ (c .before .two-at .ensures .0)
 
--- src/back.rt:35:9
 returns-2 : tie.Need-returns-2
-returns-2 c = ?
+returns-2 c = keeps-assert (here (c .before .before .before .before .before)) (c .before .before .before .before .before .args .asserts) (inSet (c .before .before .before .before .before .args .needed .now)) (c .if2 .taken)
 
--- src/back.rt:25:1
 returns-3 : tie.Need-returns-3
-returns-3 c = ?
+returns-3 c = keeps-assume (here (c .before .before .before .before .before)) (c .before .before .before .before .before .args .asserts) (inSet (c .before .before .before .before .before .args .needed .now)) (c .before .if1 .left) (c .if2 .left)
 
 pub keeps-spec : {M : Type 1} → statement M
 keeps-spec =

@@ -1,58 +1,53 @@
+-- Each turn leaves one statement fewer; what is copied and what is left make the whole (`Copying`).
 use Rattle.slice.proofs.copy.copy_kept.Statement.{statement}
 use Rattle.slice.proofs.copy.copy_kept.Tie as tie
-use Rattle.slice.proofs.copy.copy_kept.Reads as reads
-use Rattle.slice.proofs.copy.copy_kept.Lts as lts
-use Rattle.slice.proofs.copy.copy_record.Reads as copy-record-reads
+use native.Mathlib.Omega.{arith}
+use mathlib.Core.Path.{ap}
+use Rattle.file.specs.Shown.{isGood, listed}
+use Rattle.trace.specs.Trace.{readTrace}
+use Rattle.slice.proofs.Statements.{is-loaded, counted, stands}
+use Prim.Native.Nat.{_-_}
+use Rattle.write.specs.SpliceLaws.{ahead-length}
+use Rattle.slice.proofs.Copies.{Copying, copying-start, copy-room, copy-on, all-copied}
 
 abbrev Inv-loop : tie.InvT-loop
-Inv-loop trace offsets n flags out₀ to k₀ at₀ out k at = ?
+Inv-loop trace offsets n flags out₀ to k₀ at₀ out k at = Copying (listed (readTrace trace)) flags out₀ to out k at
 
 abbrev μ-loop : tie.MeasureT-loop
-μ-loop trace offsets n flags out₀ to k₀ at₀ out k at = ?
+μ-loop trace offsets n flags out₀ to k₀ at₀ out k at = n - k
 
--- src/copy.rt:40:5
 loop-holds : tie.Need-loop-holds Inv-loop μ-loop
-loop-holds c = ?
+loop-holds c = copying-start _ _ _ _
 
--- src/copy.rt:41:20
 mul-from : tie.Need-mul-from Inv-loop μ-loop
-mul-from c = ?
+mul-from c = omega (arith, c .loop-test .taken, counted (c .before .before .before .before .before .before .pre .0), is-loaded (c .before .before .before .before .before .before .pre .0) .few)
 
--- src/copy.rt:41:20
 shared-slice-read-from : tie.Need-shared-slice-read-from Inv-loop μ-loop
-shared-slice-read-from c = ?
+shared-slice-read-from c = omega (arith, c .before .loop-test .taken, c .before .before .before .before .before .before .before .pre .0 .room)
 
--- src/copy.rt:41:20
 cast-from : tie.Need-cast-from Inv-loop μ-loop
-cast-from c = ?
+cast-from c = omega (arith, c .shared-slice-known4 .given (c .before .before .loop .k))
 
--- src/copy.rt:42:39
 shared-slice-read-copy-record : tie.Need-shared-slice-read-copy-record Inv-loop μ-loop
-shared-slice-read-copy-record c = ?
+shared-slice-read-copy-record c = omega (arith, c .before .before .loop-test .taken, c .before .before .before .before .before .before .before .before .pre .1)
 
--- src/copy.rt:42:9
 copy-record-requires : tie.Need-copy-record-requires Inv-loop μ-loop
-copy-record-requires c κs = ?
+copy-record-requires c κs = let x = stands (c .before .before .before .before .before .before .before .before .before .pre .0) (c .before .before .before .before .loop .k) (c .before .before .before .loop-test .taken) in (omega (arith, c .before .before .shared-slice-known4 .given (c .before .before .before .before .loop .k)), ap isGood (x .good), copy-room (c .before .before .before .before .loop .inv) (x .statement) (x .after) (x .is-here) (omega (arith, c .before .before .before .loop-test .taken, c .before .before .before .before .before .before .before .before .before .pre .1)) _ (x .good) (c .before .before .before .before .before .before .before .before .before .pre .2))
 
--- src/copy.rt:43:9
 add-k : tie.Need-add-k Inv-loop μ-loop
-add-k c = ?
+add-k c = omega (arith, c .before .before .before .before .before .before .loop-test .taken, counted (c .before .before .before .before .before .before .before .before .before .before .before .before .pre .0), is-loaded (c .before .before .before .before .before .before .before .before .before .before .before .before .pre .0) .few)
 
--- src/copy.rt:40:5
 loop-less : tie.Need-loop-less Inv-loop μ-loop
-loop-less c = ?
+loop-less c = omega (arith, c .before .before .before .before .before .before .loop-test .taken)
 
--- src/copy.rt:40:5
 loop-again : tie.Need-loop-again Inv-loop μ-loop
-loop-again c = ?
+loop-again c = let x = stands (c .before .before .before .before .before .before .before .before .before .before .before .before .pre .0) (c .before .before .before .before .before .before .before .loop .k) (c .before .before .before .before .before .before .loop-test .taken) in copy-on (c .before .before .before .before .before .before .before .loop .inv) (x .statement) (x .after) (x .is-here) (omega (arith, c .before .before .before .before .before .before .loop-test .taken, c .before .before .before .before .before .before .before .before .before .before .before .before .pre .1)) _ (x .good) (omega (arith, c .before .before .before .before .before .before .loop-test .taken, counted (c .before .before .before .before .before .before .before .before .before .before .before .before .pre .0))) (c .before .before .copy-record .ensures)
 
--- src/copy.rt:27:1
 same-length : tie.Need-same-length Inv-loop μ-loop
-same-length c = ?
+same-length c = ahead-length (c .before .loop .inv .wrote)
 
--- src/copy.rt:27:1
 returns : tie.Need-returns Inv-loop μ-loop
-returns c = ?
+returns c = all-copied (c .before .loop .inv) (omega (arith, c .loop-test .left, counted (c .before .before .before .before .before .before .pre .0)))
 
 pub copy-kept-spec : {M : Type 1} → statement M
 copy-kept-spec =

@@ -1,50 +1,52 @@
 use borrow.Author.Needs.{needs}
 use Rattle.slice.proofs.copy.copy_record.Statement.{statement}
 use Rattle.slice.proofs.copy.copy_record.Tie as tie
-use Rattle.slice.proofs.copy.copy_record.Reads as reads
-use Rattle.slice.proofs.copy.copy_record.Lts as lts
-use Rattle.expr.proofs.number.two_at.Reads as two-at-reads
-use Rattle.write.proofs.put_part.Reads as put-part-reads
+use Rattle.trace.specs.Shown.{loose}
+use Rattle.trace.proofs.Held.{Held, held-at}
+use Prim.Native.Nat.{_+_, _≤_}
+use native.Mathlib.Omega.{arith}
+use mathlib.Core.Path.{sym, subst}
+use lib.ListN.{length}
+use Rattle.expr.specs.Lists.{All, all-at}
+use Rattle.expr.specs.Number.{Byte}
+use Rattle.write.specs.SpliceLaws.{wrote-as}
+use Rattle.slice.proofs.Copies.{part-is, none-written}
 
--- src/copy.rt:20:19
+here : (c : tie.Start) → Held 4160 loose (c .args .trace .now) (c .args .at)
+here c = held-at 4160 loose (c .args .trace .now) (c .args .at) (c .pre .1)
+
+bytes : (c : tie.After-shared-slice-known) → All Byte (c .before .args .trace .now)
+bytes c = all-at Byte (c .before .args .trace .now) (λ i h. c .shared-slice-known .given i .fits)
+
 add-end : tie.Need-add-end
 add-end c = search needs
 
--- src/copy.rt:20:28
 two-at-requires : tie.Need-two-at-requires
-two-at-requires c κs = ?
+two-at-requires c κs = omega (arith, here (c .before .before .before) .whole)
 
--- src/copy.rt:20:19
 add-end-2 : tie.Need-add-end-2
 add-end-2 c = search needs
 
--- src/copy.rt:21:32
 sub-put-part : tie.Need-sub-put-part
 sub-put-part c = search needs
 
--- src/copy.rt:21:32
 part-put-part-start : tie.Need-part-put-part-start
 part-put-part-start c = search needs
 
--- src/copy.rt:21:32
 part-put-part-end : tie.Need-part-put-part-end
-part-put-part-end c = ?
+part-put-part-end c = omega (arith, here (c .before .before .before .before) .whole, c .two-at .ensures .0)
 
--- src/copy.rt:21:9
 put-part-requires : tie.Need-put-part-requires
-put-part-requires c κs = ?
+put-part-requires c κs = let s = c .before .before .before .before .before .before in subst (λ bs. s .args .to + length bs ≤ length (s .args .out .now)) (sym (part-is (here s) (s .args .keep) (bytes (c .before .before .before .before .before)) (c .before .before .before .if1 .taken) _ (c .before .before .two-at .ensures .0))) (s .pre .2)
 
--- src/copy.rt:21:9
 same-length : tie.Need-same-length
 same-length c = search needs
 
--- src/copy.rt:21:9
 returns : tie.Need-returns
-returns c = ?
+returns c = let s = c .before .before .before .before .before .before .before .before .before in wrote-as (part-is (here s) (s .args .keep) (bytes (c .before .before .before .before .before .before .before .before)) (c .before .before .before .before .before .before .if1 .taken) _ (c .before .before .before .before .before .two-at .ensures .0)) (c .before .before .put-part .ensures)
 
--- src/copy.rt:15:1
 returns-2 : tie.Need-returns-2
-returns-2 c = ?
+returns-2 c = let s = c .before .before .before in none-written (here s) (s .args .keep) (s .args .out .now) (s .args .to) (c .if1 .left)
 
 pub copy-record-spec : {M : Type 1} → statement M
 copy-record-spec =

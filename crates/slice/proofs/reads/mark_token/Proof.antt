@@ -1,42 +1,31 @@
 use borrow.Author.Needs.{needs}
 use Rattle.slice.proofs.reads.mark_token.Statement.{statement}
 use Rattle.slice.proofs.reads.mark_token.Tie as tie
-use Rattle.slice.proofs.reads.mark_token.Reads as reads
-use Rattle.slice.proofs.reads.mark_token.Lts as lts
-use Rattle.expr.proofs.number.two_at.Reads as two-at-reads
-use Rattle.slice.proofs.sets.mark.Reads as mark-reads
+use Rattle.slice.proofs.Reading.{constant-marks, symbol-there, symbol-inside, symbol-marks, operator-marks}
 
--- src/reads.rt:20:16
 shared-slice-read-code : tie.Need-shared-slice-read-code
 shared-slice-read-code c = search needs
 
--- src/reads.rt:22:9
 returns : tie.Need-returns
-returns c = ?
+returns c = let s = c .before .before .before .before in constant-marks (s .args .e .now) (s .args .i) (s .args .needed .now) (s .pre .0) (s .pre .1) (c .if1 .taken)
 
--- src/reads.rt:25:38
 add-two-at : tie.Need-add-two-at
 add-two-at c = search needs
 
--- src/reads.rt:25:20
 two-at-requires : tie.Need-two-at-requires
-two-at-requires c κs = ?
+two-at-requires c κs = let s = c .before .before .before .before .before in symbol-there (s .args .e .now) (s .args .i) (s .args .needed .now) (s .pre .0) (s .pre .1) (c .if2 .taken)
 
--- src/reads.rt:25:9
 mark-requires : tie.Need-mark-requires
-mark-requires c κs = ?
+mark-requires c κs = let s = c .before .before .before .before .before .before .before in symbol-inside (s .args .e .now) (s .args .i) (s .args .needed .now) (s .pre .0) (s .pre .1) (c .before .before .if2 .taken) _ (c .before .two-at .ensures .0)
 
--- src/reads.rt:26:9
 same-length : tie.Need-same-length
 same-length c = search needs
 
--- src/reads.rt:26:9
 returns-2 : tie.Need-returns-2
-returns-2 c = ?
+returns-2 c = let s = c .before .before .before .before .before .before .before .before .before .before in symbol-marks (s .args .e .now) (s .args .i) (s .args .needed .now) (s .pre .0) (s .pre .1) (c .before .before .before .before .before .if2 .taken) _ (c .before .before .before .before .two-at .ensures .0) (c .before .before .mark .last .1 .0) (c .before .before .mark .ensures)
 
--- src/reads.rt:16:1
 returns-3 : tie.Need-returns-3
-returns-3 c = ?
+returns-3 c = let s = c .before .before .before .before .before in operator-marks (s .args .e .now) (s .args .i) (s .args .needed .now) (s .pre .0) (s .pre .1) (c .before .if1 .left) (c .if2 .left)
 
 pub mark-token-spec : {M : Type 1} → statement M
 mark-token-spec =

@@ -1,11 +1,11 @@
 use Rattle.slice.proofs.sets.clear.Statement.{statement}
 use Rattle.slice.proofs.sets.clear.Tie as tie
-use Rattle.slice.proofs.sets.clear.Reads as reads
-use Rattle.slice.proofs.sets.clear.Lts as lts
+use mathlib.Core.Bool.{Bool, false}
+use lib.ListN.{length-replicate}
+use Rattle.file.specs.FileLaws.{same-everywhere}
 
--- src/sets.rt:10:1
 returns : tie.Need-returns
-returns c = ?
+returns c = (length-replicate {A = Bool} 4160 false, same-everywhere 4160 false)
 
 pub clear-spec : {M : Type 1} → statement M
 clear-spec = tie.close (tie.spec returns)

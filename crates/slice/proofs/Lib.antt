@@ -1,0 +1,7 @@
+pub mod Bits
+pub mod Reading
+pub mod Records
+pub mod Statements
+pub mod Walk
+pub mod Copies
+pub mod Answers

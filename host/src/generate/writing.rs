@@ -1,0 +1,104 @@
+//! Cases of writing: tables to unwind, traces to slice, written or not, and rooms around what they need.
+
+use super::draft::Draft;
+use super::expressions::NOT;
+use super::random::Random;
+use super::{any_bound, faults, lay_out, rules, traces, valuation};
+use crate::case::{JudgeCase, SliceCase, TraceCase};
+use crate::encoding::Form;
+use crate::model;
+use crate::written::{whole, LENGTH_LIMIT};
+
+pub fn trace_case(seed: u64) -> TraceCase {
+    let mut random = Random::new(seed);
+    let (rule, bound) = rule_and_bound(&mut random);
+    let table = lay_out(&mut random, rule);
+    let length = written_trace(&table, bound).len();
+    TraceCase { table, bound, room: room(&mut random, length) }
+}
+
+pub fn slice_case(seed: u64) -> SliceCase {
+    let mut random = Random::new(seed);
+    let trace = any_trace(&mut random);
+    let length = whole(|out| model::slice(&trace, out).length).len();
+    SliceCase { trace, room: room(&mut random, length) }
+}
+
+/// Judging of the traces that slicing is given.
+pub fn sliced_judge_case(seed: u64) -> JudgeCase {
+    let mut random = Random::new(seed);
+    let trace = any_trace(&mut random);
+    let inputs = trace.get(3).copied().unwrap_or(0);
+    JudgeCase { valuation: valuation(&mut random, inputs.into()), trace }
+}
+
+/// From a table or from none, damaged or not.
+fn any_trace(random: &mut Random) -> Vec<u8> {
+    if random.one_in(2) {
+        let trace = traces::trace(random);
+        return lay_out(random, trace);
+    }
+    let mut trace = any_written_trace(random);
+    if random.one_in(3) {
+        faults::damage_bytes(random, &mut trace, Form::Trace);
+    }
+    trace
+}
+
+/// The trace of the first rule and bound that have one.
+fn any_written_trace(random: &mut Random) -> Vec<u8> {
+    loop {
+        let (rule, bound) = rule_and_bound(random);
+        let trace = written_trace(&rule.encode(), bound);
+        if !trace.is_empty() {
+            return trace;
+        }
+    }
+}
+
+fn rule_and_bound(random: &mut Random) -> (Draft, u64) {
+    let mut rule = rules::rule(random);
+    let mut bound = trace_bound(random, rule.records.len());
+    if random.one_in(100) {
+        bound = random.pick(&[0, 0, bound]);
+        fill(random, &mut rule, bound);
+    }
+    (rule, bound)
+}
+
+/// For a long table mostly a bound under which its trace has about as many statements as it may have, or fewer.
+fn trace_bound(random: &mut Random, instructions: usize) -> u64 {
+    if instructions > 50 && !random.one_in(10) {
+        return random.below(3 + 4096 / (instructions + 1)) as u64;
+    }
+    any_bound(random)
+}
+
+/// Lengthens the last instruction so that the trace is as long as it may be, or a little longer; exactly where there
+/// is one copy.
+fn fill(random: &mut Random, rule: &mut Draft, bound: u64) {
+    let length = written_trace(&rule.encode(), bound).len();
+    let Some(last) = rule.records.last_mut().filter(|_| length > 0) else {
+        return;
+    };
+    let wanted = LENGTH_LIMIT + random.below(3) - 1;
+    let padding = wanted.saturating_sub(length) / (bound as usize + 1);
+    last.expression.extend(vec![NOT; padding]);
+}
+
+/// The trace of a table, empty where there is none.
+fn written_trace(table: &[u8], bound: u64) -> Vec<u8> {
+    whole(|out| model::trace(table, bound, out).length)
+}
+
+/// Around the exact length, or far from it.
+fn room(random: &mut Random, length: usize) -> usize {
+    match random.below(12) {
+        0..=4 => length,
+        5..=6 => length + 1,
+        7..=8 => length.saturating_sub(1),
+        9 => 0,
+        10 => random.below(length + 1),
+        _ => length + random.pick(&[2, 100, 1_000, LENGTH_LIMIT]),
+    }
+}

@@ -1,0 +1,62 @@
+//! Buffers lent to the calls that write, and what is left in them.
+
+use std::array;
+use std::fmt::{self, Debug};
+
+/// No trace has more bytes.
+pub const LENGTH_LIMIT: usize = 65_535;
+
+/// An answer, and what its calls left in the buffers lent to them.
+#[derive(Clone, PartialEq, Eq)]
+pub struct Written<A> {
+    pub answer: A,
+    /// One buffer, unless calls differ.
+    outs: Vec<Vec<u8>>,
+}
+
+impl<A> Written<A> {
+    pub fn new<const N: usize>(answer: A, outs: [Vec<u8>; N]) -> Written<A> {
+        let mut outs = Vec::from(outs);
+        outs.dedup();
+        Written { answer, outs }
+    }
+
+    /// What is written from the first byte of a buffer of so many bytes, which is left as it was behind that.
+    pub fn known(answer: A, bytes: &[u8], room: usize) -> Written<A> {
+        let mut outs: [Vec<u8>; 1] = lend(room);
+        outs[0][..bytes.len()].copy_from_slice(bytes);
+        Written::new(answer, outs)
+    }
+}
+
+impl<A: Debug> Debug for Written<A> {
+    fn fmt(&self, f: &mut fmt::Formatter) -> fmt::Result {
+        write!(f, "{:?}", self.answer)?;
+        self.outs.iter().try_for_each(|out| write!(f, "\n  out: {out:02X?}"))
+    }
+}
+
+/// Buffers in which neighbours differ, so that a byte written or moved shows.
+pub fn lend<const N: usize>(room: usize) -> [Vec<u8>; N] {
+    array::from_fn(|_| (0..room).map(|i| (i * 89 + 0xA5) as u8).collect())
+}
+
+/// What a call that gives its length writes into room enough for all; nothing where it refuses.
+pub fn whole(call: impl FnOnce(&mut [u8]) -> u32) -> Vec<u8> {
+    let mut out = vec![0; LENGTH_LIMIT];
+    let length = call(&mut out);
+    out.truncate(length as usize);
+    out
+}
+
+/// How the room lent to a call meets the length that it writes, in words.
+pub fn fit(room: usize, length: usize) -> &'static str {
+    match room {
+        0 => "no room",
+        _ if room == length => "the exact room",
+        _ if room == length + 1 => "a byte more room",
+        _ if room + 1 == length => "a byte too little room",
+        _ if room > length => "much more room",
+        _ => "too little room",
+    }
+}

@@ -1,0 +1,268 @@
+//! Slicing a trace: document 01's cases, the archive against the model on generated ones, and what slices are for.
+
+use host::archive;
+use host::case::{Case, JudgeCase, SliceCase};
+use host::cases::{slicing as cases, traces};
+use host::generate;
+use host::hold::{hold_archive_to_model, hold_features, hold_known, hold_property};
+use host::model::{self, JudgeAnswer, SliceAnswer};
+use host::parts::Parts;
+use host::statement::assign;
+use host::written::{fit, whole, Written};
+
+const ASSIGN: u8 = 1;
+const ASSUME: u8 = 2;
+const ASSERT: u8 = 3;
+
+/// How many cases are generated for a test.
+const CASES: u64 = 15_000;
+
+/// What generated cases have to show, one in so many.
+const DUE: [(&str, u64); 31] = [
+    ("reply 0", 10),
+    ("reply 1", 500),
+    ("reply 2", 500),
+    ("reply 3", 500),
+    ("reply 4", 500),
+    ("reply 5", 500),
+    ("reply 6", 500),
+    ("reply 7", 500),
+    ("reply 10", 500),
+    ("reply 10, no room", 500),
+    ("reply 10, a byte too little room", 500),
+    ("reply 0, the exact room", 500),
+    ("reply 0, a byte more room", 500),
+    ("reply 0, much more room", 500),
+    ("reply 0, of a table", 10),
+    ("reply 0, of no table", 10),
+    ("reply 0, all kept", 500),
+    ("reply 0, nothing kept", 500),
+    ("reply 0, an Assign kept", 10),
+    ("reply 0, an Assign dropped before an Assert", 20),
+    ("reply 0, an Assign dropped behind the last Assert", 20),
+    ("reply 0, an Assume kept", 20),
+    ("reply 0, an Assume dropped", 20),
+    ("reply 0, no input read", 500),
+    ("reply 0, some inputs read", 500),
+    ("reply 0, all of two inputs or more read", 500),
+    ("reply 0, input 63 read", 500),
+    ("reply 0, symbol S + 4,095 kept", 500),
+    ("reply 0, 1,000 statements or more", 500),
+    ("reply 0, 4,000 statements or more", 5_000),
+    ("reply 0, 65,000 bytes or more", 2_000),
+];
+
+/// What judged traces have to show, one in so many.
+const JUDGED_DUE: [(&str, u64); 8] = [
+    ("of a table, safe", 10),
+    ("of a table, unsafe", 50),
+    ("of no table, safe", 10),
+    ("of no table, unsafe", 50),
+    ("of a table, some inputs not read", 50),
+    ("of no table, some inputs not read", 50),
+    ("of a table, unsafe, some inputs not read", 500),
+    ("of no table, unsafe, some inputs not read", 500),
+];
+
+#[test]
+fn the_marked_cases_hold_in_the_model() {
+    hold_known(SliceCase::model, cases::marked());
+}
+
+#[test]
+fn the_marked_cases_hold_in_the_archive() {
+    hold_known(SliceCase::archive, cases::marked());
+}
+
+#[test]
+fn the_limits_hold_in_the_model() {
+    hold_known(SliceCase::model, cases::limits());
+}
+
+#[test]
+fn the_limits_hold_in_the_archive() {
+    hold_known(SliceCase::archive, cases::limits());
+}
+
+#[test]
+fn the_sentences_on_slices_hold_in_the_model() {
+    hold_known(SliceCase::model, cases::slices());
+}
+
+#[test]
+fn the_sentences_on_slices_hold_in_the_archive() {
+    hold_known(SliceCase::archive, cases::slices());
+}
+
+#[test]
+fn the_sentences_on_room_hold_in_the_model() {
+    hold_known(SliceCase::model, cases::rooms());
+}
+
+#[test]
+fn the_sentences_on_room_hold_in_the_archive() {
+    hold_known(SliceCase::archive, cases::rooms());
+}
+
+#[test]
+fn the_model_refuses_the_traces_that_judging_refuses() {
+    hold_known(SliceCase::model, cases::refusals());
+}
+
+#[test]
+fn the_archive_refuses_the_traces_that_judging_refuses() {
+    hold_known(SliceCase::archive, cases::refusals());
+}
+
+#[test]
+fn the_small_rules_slice_has_102_bytes_and_reads_its_input() {
+    let slice = SliceAnswer { length: 102, inputs: 1, mask: 1, ..SliceAnswer::default() };
+    let case = SliceCase { trace: traces::SMALL_RULE_0.to_vec(), room: 102 };
+    assert_eq!(cases::small_rule_0().len(), 102);
+    assert_eq!(case.model().answer, slice, "the model's");
+    assert_eq!(case.archive().answer, slice, "the archive's");
+}
+
+#[test]
+fn the_generated_cases_reach_every_reply_every_kind_of_room_and_what_is_kept() {
+    hold_features(CASES, generate::slice_case, features, &DUE);
+}
+
+#[test]
+fn the_archive_gives_the_models_answer_and_bytes_on_every_case() {
+    hold_archive_to_model(CASES, generate::slice_case);
+}
+
+#[test]
+fn the_generated_judgements_reach_both_verdicts_and_inputs_that_slices_do_not_read() {
+    hold_features(CASES, generate::sliced_judge_case, judged_features, &JUDGED_DUE);
+}
+
+#[test]
+fn a_trace_and_its_slice_are_judged_alike() {
+    hold_property(CASES, generate::sliced_judge_case, |case| {
+        let slice = archive_slice(&case.trace);
+        slice.is_empty() || archive::judge(&slice, &case.valuation) == case.archive()
+    });
+}
+
+#[test]
+fn inputs_that_a_slice_does_not_read_change_neither_verdict_nor_place() {
+    hold_property(CASES, generate::sliced_judge_case, |case| {
+        let mask = archive_mask(&case.trace);
+        let changes: [fn(u32) -> u32; 3] = [|word| !word, |word| word ^ 1, |_| 0];
+        let judged = case.archive();
+        changes.iter().all(|change| change_unread(case, mask, *change).archive() == judged)
+    });
+}
+
+#[test]
+fn slicing_a_slice_changes_nothing() {
+    hold_property(CASES, generate::sliced_judge_case, |case| {
+        let slice = archive_slice(&case.trace);
+        archive_slice(&slice) == slice && archive_mask(&slice) == archive_mask(&case.trace)
+    });
+}
+
+/// Empty where there is none.
+fn archive_slice(trace: &[u8]) -> Vec<u8> {
+    whole(|out| archive::slice_length(trace, out))
+}
+
+fn archive_mask(trace: &[u8]) -> u64 {
+    archive::slice_mask(trace, &mut vec![0; trace.len()])
+}
+
+/// The case with other words for the inputs outside the mask.
+fn change_unread(case: &JudgeCase, mask: u64, change: fn(u32) -> u32) -> JudgeCase {
+    let mut changed = case.clone();
+    for (s, bytes) in changed.valuation.chunks_exact_mut(4).enumerate().take(64) {
+        if mask >> s & 1 == 0 {
+            let word = u32::from_be_bytes([bytes[0], bytes[1], bytes[2], bytes[3]]);
+            bytes.copy_from_slice(&change(word).to_be_bytes());
+        }
+    }
+    changed
+}
+
+/// What a case shows, in the words of `DUE`.
+fn features(case: &SliceCase, written: Written<SliceAnswer>) -> Vec<String> {
+    let reply = format!("reply {}", written.answer.reply);
+    let more = match written.answer.reply {
+        0 => sliced_features(case, written.answer),
+        10 => vec![fit(case.room, model_slice(&case.trace).len())],
+        _ => vec![],
+    };
+    let more = more.into_iter().map(|feature| format!("{reply}, {feature}")).collect();
+    [vec![reply.clone()], more].concat()
+}
+
+fn sliced_features(case: &SliceCase, answer: SliceAnswer) -> Vec<&'static str> {
+    let inputs = u32::from(case.trace[3]);
+    let kept = statements(&model_slice(&case.trace));
+    let statements = statements(&case.trace);
+    let last_assert = statements.iter().rposition(|statement| statement[0] == ASSERT).unwrap_or(0);
+    let (before, behind) = statements.split_at(last_assert);
+    let shown = [
+        (true, fit(case.room, answer.length as usize)),
+        (true, origin(&case.trace)),
+        (kept.len() == statements.len() && !kept.is_empty(), "all kept"),
+        (kept.is_empty() && !statements.is_empty(), "nothing kept"),
+        (count(&kept, ASSIGN) > 0, "an Assign kept"),
+        (count(&kept, ASSIGN) < count(before, ASSIGN), "an Assign dropped before an Assert"),
+        (last_assert > 0 && count(behind, ASSIGN) > 0, "an Assign dropped behind the last Assert"),
+        (count(&kept, ASSUME) > 0, "an Assume kept"),
+        (count(&kept, ASSUME) < count(&statements, ASSUME), "an Assume dropped"),
+        (answer.inputs == 0, "no input read"),
+        (0 < answer.inputs && answer.inputs < inputs, "some inputs read"),
+        (answer.inputs >= 2 && answer.inputs == inputs, "all of two inputs or more read"),
+        (answer.mask >> 63 == 1, "input 63 read"),
+        (assigns(&kept, inputs as u16 + 4095), "symbol S + 4,095 kept"),
+        (statements.len() >= 1_000, "1,000 statements or more"),
+        (statements.len() >= 4_000, "4,000 statements or more"),
+        (case.trace.len() >= 65_000, "65,000 bytes or more"),
+    ];
+    shown.into_iter().filter(|(is_shown, _)| *is_shown).map(|(_, feature)| feature).collect()
+}
+
+/// Whether the trace begins as the trace of a table.
+fn origin(trace: &[u8]) -> &'static str {
+    let opening = assign(65535, trace[3].into(), &[1, 0, 0, 0, 0]);
+    if statements(trace).first() == Some(&opening) {
+        return "of a table";
+    }
+    "of no table"
+}
+
+fn count(statements: &[Vec<u8>], kind: u8) -> usize {
+    statements.iter().filter(|statement| statement[0] == kind).count()
+}
+
+fn assigns(statements: &[Vec<u8>], symbol: u16) -> bool {
+    statements.iter().any(|statement| statement[0] == ASSIGN && statement[3..5] == symbol.to_be_bytes())
+}
+
+fn statements(trace: &[u8]) -> Vec<Vec<u8>> {
+    Parts::of(trace).expect("a whole header").records
+}
+
+/// Empty where there is none.
+fn model_slice(trace: &[u8]) -> Vec<u8> {
+    whole(|out| model::slice(trace, out).length)
+}
+
+/// What a judged trace shows, in the words of `JUDGED_DUE`.
+fn judged_features(case: &JudgeCase, answer: JudgeAnswer) -> Vec<String> {
+    if answer.reply != 0 {
+        return vec![format!("reply {}", answer.reply)];
+    }
+    let verdict = if answer.verdict == 0 { "safe" } else { "unsafe" };
+    let read = model::slice(&case.trace, &mut vec![0; case.trace.len()]).inputs;
+    let origin = origin(&case.trace);
+    let mut features = vec![format!("{origin}, {verdict}")];
+    if read < case.trace[3].into() {
+        features.push(format!("{origin}, some inputs not read"));
+        features.push(format!("{origin}, {verdict}, some inputs not read"));
+    }
+    features
+}

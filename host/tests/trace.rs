@@ -1,0 +1,234 @@
+//! Writing a trace: document 01's cases, the archive against the model on generated ones, and against its own running.
+
+use host::archive;
+use host::case::{Case, RunCase, TraceCase};
+use host::cases::{running, unwinding as cases};
+use host::generate;
+use host::hold::{hold_archive_to_model, hold_features, hold_known, hold_property};
+use host::model::{self, RunAnswer, TraceAnswer};
+use host::written::{fit, whole, Written, LENGTH_LIMIT};
+
+/// How many cases are generated for a test.
+const CASES: u64 = 40_000;
+
+/// What generated cases have to show, one in so many.
+const DUE: [(&str, u64); 26] = [
+    ("reply 0", 10),
+    ("reply 1", 500),
+    ("reply 2", 500),
+    ("reply 3", 500),
+    ("reply 4", 500),
+    ("reply 5", 500),
+    ("reply 6", 500),
+    ("reply 7", 500),
+    ("reply 8", 500),
+    ("reply 9", 500),
+    ("reply 9, over 4,096 statements", 500),
+    ("reply 9, at most 4,096 statements", 500),
+    ("reply 10", 500),
+    ("reply 10, a byte too little room", 500),
+    ("reply 10, no room", 500),
+    ("reply 0, K: 0", 500),
+    ("reply 0, K: 1 to 9", 500),
+    ("reply 0, K: 10 to 99", 500),
+    ("reply 0, K: 100 to 255", 500),
+    ("reply 0, the exact room", 500),
+    ("reply 0, a byte more room", 500),
+    ("reply 0, much more room", 500),
+    ("reply 0, 1,000 instructions or more", 10_000),
+    ("reply 0, 1,000 statements or more", 500),
+    ("reply 0, 65,000 bytes or more", 500),
+    ("reply 0, 65,535 bytes", 5_000),
+];
+
+/// What runs have to show beside written traces, one in so many.
+const RUNS_DUE: [(&str, u64); 6] = [
+    ("safe", 10),
+    ("safe, back jumps taken", 100),
+    ("safe, a bound above 0 used up", 500),
+    ("unsafe", 20),
+    ("unsafe, back jumps taken", 100),
+    ("refused 11", 100),
+];
+
+#[test]
+fn the_marked_cases_hold_in_the_model() {
+    hold_known(TraceCase::model, cases::marked());
+}
+
+#[test]
+fn the_marked_cases_hold_in_the_archive() {
+    hold_known(TraceCase::archive, cases::marked());
+}
+
+#[test]
+fn the_limits_hold_in_the_model() {
+    hold_known(TraceCase::model, cases::limits());
+}
+
+#[test]
+fn the_limits_hold_in_the_archive() {
+    hold_known(TraceCase::archive, cases::limits());
+}
+
+#[test]
+fn the_sentences_on_traces_hold_in_the_model() {
+    hold_known(TraceCase::model, cases::unwindings());
+}
+
+#[test]
+fn the_sentences_on_traces_hold_in_the_archive() {
+    hold_known(TraceCase::archive, cases::unwindings());
+}
+
+#[test]
+fn the_sentences_on_room_hold_in_the_model() {
+    hold_known(TraceCase::model, cases::rooms());
+}
+
+#[test]
+fn the_sentences_on_room_hold_in_the_archive() {
+    hold_known(TraceCase::archive, cases::rooms());
+}
+
+#[test]
+fn the_model_refuses_the_tables_and_bounds_that_running_refuses() {
+    hold_known(TraceCase::model, cases::refusals());
+}
+
+#[test]
+fn the_archive_refuses_the_tables_and_bounds_that_running_refuses() {
+    hold_known(TraceCase::archive, cases::refusals());
+}
+
+#[test]
+fn the_small_rules_trace_has_6_statements_in_156_bytes_for_no_back_jump() {
+    hold_size(&running::SMALL_RULE, 0, 6, 156);
+}
+
+#[test]
+fn the_small_rules_trace_has_11_statements_in_302_bytes_for_one_back_jump() {
+    hold_size(&running::SMALL_RULE, 1, 11, 302);
+}
+
+#[test]
+fn the_small_rules_trace_has_1281_statements_in_37386_bytes_for_255_back_jumps() {
+    hold_size(&running::SMALL_RULE, 255, 1281, 37_386);
+}
+
+#[test]
+fn a_table_without_instructions_has_2_statements_in_43_bytes() {
+    hold_size(&[1, 0, 6, 0, 0, 0], 0, 2, 43);
+}
+
+#[test]
+fn a_table_of_1024_asserts_has_2051_statements_in_47172_bytes_for_one_back_jump() {
+    hold_size(&running::thousand_asserts(), 1, 2051, 47_172);
+}
+
+#[test]
+fn the_generated_cases_reach_every_reply_every_kind_of_room_and_both_limits() {
+    hold_features(CASES, generate::trace_case, features, &DUE);
+}
+
+#[test]
+fn the_archive_gives_the_models_answer_and_bytes_on_every_case() {
+    hold_archive_to_model(CASES, generate::trace_case);
+}
+
+#[test]
+fn the_generated_runs_with_a_trace_reach_both_verdicts_and_later_copies() {
+    hold_features(CASES, generate::run_case, run_features, &RUNS_DUE);
+}
+
+#[test]
+fn running_a_table_and_judging_its_trace_give_one_verdict_and_place() {
+    hold_property(CASES, generate::run_case, |case| {
+        let trace = archive_trace(&case.table, case.bound);
+        if trace.is_empty() {
+            return true;
+        }
+        let run = case.archive();
+        let judged = archive::judge(&trace, &case.valuation);
+        (run.reply, run.verdict, run.place) == (judged.reply, judged.verdict, judged.place)
+    });
+}
+
+/// Empty where there is none.
+fn archive_trace(table: &[u8], bound: u64) -> Vec<u8> {
+    whole(|out| archive::trace_length(table, bound, out))
+}
+
+/// Empty where there is none.
+fn model_trace(table: &[u8], bound: u64) -> Vec<u8> {
+    whole(|out| model::trace(table, bound, out).length)
+}
+
+fn hold_size(table: &[u8], bound: u64, statements: u16, length: usize) {
+    for (whose, trace) in [("model", model_trace(table, bound)), ("archive", archive_trace(table, bound))] {
+        let size = (u16::from_be_bytes([trace[4], trace[5]]), trace.len());
+        assert_eq!(size, (statements, length), "the {whose}'s trace");
+    }
+}
+
+/// What a case shows, in the words of `DUE`.
+fn features(case: &TraceCase, written: Written<TraceAnswer>) -> Vec<String> {
+    let reply = format!("reply {}", written.answer.reply);
+    let more = match written.answer.reply {
+        0 => written_features(case, written.answer.length as usize),
+        9 if statements(case) > 4096 => vec!["over 4,096 statements"],
+        9 => vec!["at most 4,096 statements"],
+        10 => vec![fit(case.room, model_trace(&case.table, case.bound).len())],
+        _ => vec![],
+    };
+    let more = more.into_iter().map(|feature| format!("{reply}, {feature}")).collect();
+    [vec![reply.clone()], more].concat()
+}
+
+fn written_features(case: &TraceCase, length: usize) -> Vec<&'static str> {
+    let shown = [
+        (true, fit(case.room, length)),
+        (true, range(case.bound)),
+        (instructions(case) >= 1_000, "1,000 instructions or more"),
+        (statements(case) >= 1_000, "1,000 statements or more"),
+        (length >= 65_000, "65,000 bytes or more"),
+        (length == LENGTH_LIMIT, "65,535 bytes"),
+    ];
+    shown.into_iter().filter(|(is_shown, _)| *is_shown).map(|(_, feature)| feature).collect()
+}
+
+fn instructions(case: &TraceCase) -> u64 {
+    u16::from_be_bytes([case.table[4], case.table[5]]).into()
+}
+
+fn statements(case: &TraceCase) -> u64 {
+    1 + (case.bound + 1) * (instructions(case) + 1)
+}
+
+fn range(bound: u64) -> &'static str {
+    match bound {
+        0 => "K: 0",
+        1..=9 => "K: 1 to 9",
+        10..=99 => "K: 10 to 99",
+        _ => "K: 100 to 255",
+    }
+}
+
+/// What a run beside a written trace shows, in the words of `RUNS_DUE`.
+fn run_features(case: &RunCase, answer: RunAnswer) -> Vec<String> {
+    if model_trace(&case.table, case.bound).is_empty() {
+        return vec!["no trace".into()];
+    }
+    if answer.reply != 0 {
+        return vec![format!("refused {}", answer.reply)];
+    }
+    let verdict = if answer.verdict == 0 { "safe" } else { "unsafe" };
+    let mut features = vec![verdict.into()];
+    if answer.back_jumps > 0 {
+        features.push(format!("{verdict}, back jumps taken"));
+        if case.bound == answer.back_jumps.into() {
+            features.push(format!("{verdict}, a bound above 0 used up"));
+        }
+    }
+    features
+}
