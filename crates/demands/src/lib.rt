@@ -1,0 +1,1 @@
+// What has been promised: statements and their proofs, and no code. Read `specs/`.
