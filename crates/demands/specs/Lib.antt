@@ -1,0 +1,5 @@
+-- What the user has been promised: each statement, and its proof beside it.
+pub mod Demand3
+pub mod Demand3Proof
+-- Each public call's statement determines its answer and its buffer.
+pub mod Determined

@@ -1,13 +1,13 @@
 -- The laws of evaluation: over `++`, of a renamed expression, on the symbols read, what an expression pushes, and that words stay words.
 use Prim.Native.Nat.{ℕ, _≤_, _<_}
 use native.Mathlib.Omega.{arith}
-use mathlib.Core.Path.{_≡_, refl, ap, _∙_, fun-ext}
+use mathlib.Core.Path.{_≡_, refl, sym, ap, _∙_, fun-ext}
 use mathlib.Core.Bool.{Bool, true, false, cond}
 use mathlib.Core.List.{List, [], _∷_, _++_}
 use lib.ListN.{length, set}
 use lib.Seq.{getD-set-same, getD-set-other}
 use lib.Dec.{eqb}
-use borrow.Author.Tests.{eqb-true, eqb-false, eq-eqb}
+use borrow.Author.Tests.{eqb-true, eqb-false, eq-eqb, ne-eqb}
 use Rattle.expr.specs.declared.File.{File}
 use Rattle.expr.specs.Lists.{All, or-left, or-right, or-cases}
 use Rattle.expr.specs.Word.{Word}
@@ -30,6 +30,21 @@ update-set vals s v h = fun-ext (λ x. go x (eqb x s) refl)
     go : (x : ℕ) (b : Bool) → eqb x s ≡ b → envOf (set vals s v) x ≡ cond b v (envOf vals x)
     go x true e = ap (envOf (set vals s v)) (eqb-true x s e) ∙ getD-set-same vals s v 0 h
     go x false e = getD-set-other vals s x v 0 (λ q. eqb-false x s e q)
+
+-- ---- one symbol's value
+
+pub update-same : (ρ : Env) (s v : ℕ) → update ρ s v s ≡ v
+update-same ρ s v = ap (λ b. cond b v (ρ s)) (eq-eqb s s refl)
+
+pub update-other : (ρ : Env) (s v x : ℕ) → (x ≡ s → ⊥) → update ρ s v x ≡ ρ x
+update-other ρ s v x n = ap (λ b. cond b v (ρ x)) (ne-eqb x s n)
+
+pub update-self : (ρ : Env) (s : ℕ) → update ρ s (ρ s) ≡ ρ
+update-self ρ s = fun-ext (λ x. go x (eqb x s) refl)
+  where
+    go : (x : ℕ) (b : Bool) → eqb x s ≡ b → cond b (ρ s) (ρ x) ≡ ρ x
+    go x true e = ap ρ (sym (eqb-true x s e))
+    go x false e = refl
 
 -- ---- other symbols
 

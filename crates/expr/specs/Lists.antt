@@ -1,10 +1,10 @@
 -- What the laws say of lists and tests in general.
-use Prim.Native.Nat.{ℕ, zero, suc, _-_, _<_}
+use Prim.Native.Nat.{ℕ, zero, suc, _+_, _-_, _<_}
 use native.Mathlib.Omega.{arith}
 use mathlib.Core.Path.{_≡_, refl, sym, ap, _∙_}
 use mathlib.Core.Bool.{Bool, true, false, _&&_, _||_}
-use mathlib.Core.List.{List, [], _∷_}
-use lib.Seq.{take-nil}
+use mathlib.Core.List.{List, [], _∷_, _++_}
+use lib.Seq.{take-nil, drop-drop}
 use lib.Dec.{eqb}
 use lib.ListN.{length, take, drop, getD}
 use borrow.Author.Tests.{eqb-true, eqb-false}
@@ -25,6 +25,10 @@ all-take P zero xs h = tt
 all-take P (suc k) [] h = tt
 all-take P (suc k) (x ∷ xs) h = (h .0, all-take P k xs (h .1))
 
+pub all-append {ℓ} : {A : Type ℓ} (P : A → Type 0) (xs ys : List A) → All P xs → All P ys → All P (xs ++ ys)
+all-append P [] ys h k = k
+all-append P (x ∷ xs) ys h k = (h .0, all-append P xs ys (h .1) k)
+
 -- what holds at every index holds of every element
 pub all-at : (P : ℕ → Type 0) (xs : List ℕ) → ((i : ℕ) → i < length xs → P (getD xs i 0)) → All P xs
 all-at P [] h = tt
@@ -37,6 +41,10 @@ drop-take zero l xs = ap (λ n. take n xs) (let e : l ≡ l - 0 = omega arith in
 drop-take (suc k) zero xs = sym (ap (λ n. take n (drop (suc k) xs)) (let e : 0 - suc k ≡ 0 = omega arith in e))
 drop-take (suc k) (suc l) [] = sym (take-nil (suc l - suc k))
 drop-take (suc k) (suc l) (x ∷ xs) = drop-take k l xs ∙ ap (λ n. take n (drop k xs)) (let e : l - k ≡ suc l - suc k = omega arith in e)
+
+-- behind the element at i
+pub drop-next {ℓ} : {A : Type ℓ} (xs : List A) (i : ℕ) {y : A} {ys : List A} → drop i xs ≡ y ∷ ys → drop (i + 1) xs ≡ ys
+drop-next xs i q = sym (drop-drop 1 i xs) ∙ ap (drop 1) q
 
 -- ---- tests
 

@@ -4,7 +4,7 @@ use native.Mathlib.Omega.{arith}
 use mathlib.Core.Path.{_≡_, refl, sym, ap, ap₂, _∙_, subst}
 use mathlib.Core.Bool.{Bool, true, false, cond}
 use mathlib.Core.Option.{Option, none, some}
-use mathlib.Core.List.{List, [], _∷_, _++_}
+use mathlib.Core.List.{List, [], _∷_, _++_, append-assoc}
 use lib.ListN.{length, take, length-append}
 use lib.Dec.{eqb, leb}
 use borrow.Author.Tests.{eqb-true, ne-eqb, le-leb, leb-true}
@@ -14,7 +14,7 @@ use Rattle.expr.specs.Lists.{All}
 use Rattle.expr.specs.Word.{Unary, Not, Neg, Zero, Binary, Add, Sub, Mul, Udiv, Urem, And, Or, Xor, Shl, Lshr, Equal, Ult, Ule, Slt}
 use Rattle.expr.specs.Number.{Byte, numberOf, bytesOf}
 use Rattle.expr.specs.NumberLaws.{bytesOf-length, number-written, number-lt, bytes-read}
-use Rattle.expr.specs.Token.{Token, Const, Symbol, Un, Bin, Ite, symbolCode, symbolWidth, unaryCode, binaryCode, code, operands, operandCount, tokenBytes, operators, coded, operator, operand, readToken}
+use Rattle.expr.specs.Token.{Token, Const, Symbol, Un, Bin, Ite, symbolCode, symbolWidth, unaryCode, binaryCode, code, operands, operandCount, tokenBytes, exprBytes, operators, coded, operator, operand, readToken}
 
 -- the number of a token fits its bytes
 abbrev pub Holds : File → Token → Type 0
@@ -177,3 +177,9 @@ module _ (F : File) (b : ℕ) (bs : List ℕ) where
       (λ e l q. subst (Stands F (b ∷ bs)) q (record { bytes = ap₂ {C = List ℕ} (λ x y. x ∷ y) (sym e) (bytes-read 4 bs o l); holds = number-lt 4 bs o }))
       (λ e l q. subst (Stands F (b ∷ bs)) q (record { bytes = ap₂ {C = List ℕ} (λ x y. x ∷ y) (sym e) (bytes-read (symbolWidth F) bs o l); holds = number-lt (symbolWidth F) bs o }))
       (operator-stands t)
+
+-- ---- the bytes of an expression
+
+pub bytes-append : (F : File) (a b : List Token) → exprBytes F (a ++ b) ≡ exprBytes F a ++ exprBytes F b
+bytes-append F [] b = refl
+bytes-append F (t ∷ a) b = ap (λ bs. tokenBytes F t ++ bs) (bytes-append F a b) ∙ sym (append-assoc (tokenBytes F t) (exprBytes F a) (exprBytes F b))

@@ -134,3 +134,8 @@ pub field-written : {A : Type 0} (k n : ℕ) (rest : List ℕ) (f : ℕ → List
 field-written k n rest f h =
     field-there k (bytesOf k n ++ rest) f (omega (arith, length-append (bytesOf k n) rest, bytesOf-length k n))
     ∙ ap₂ f (number-written k n rest h) (drop-at (bytesOf k n) rest k (bytesOf-length k n))
+
+pub records-append : {A : Type 0} (bytes : A → List ℕ) (xs ys : List A) → recordsBytes bytes (xs ++ ys) ≡ recordsBytes bytes xs ++ recordsBytes bytes ys
+records-append bytes [] ys = refl
+records-append bytes (x ∷ xs) ys =
+    ap (λ bs. recordBytes bytes x ++ bs) (records-append bytes xs ys) ∙ sym (append-assoc (recordBytes bytes x) (recordsBytes bytes xs) (recordsBytes bytes ys))

@@ -2,20 +2,20 @@
 use Prim.Native.Nat.{ℕ, suc, _+_, _*_, _≤_, _<_}
 use native.Mathlib.Omega.{arith}
 use native.Mathlib.Numerals.{add-one}
-use mathlib.Core.Path.{_≡_, refl, sym, ap, ap₂, _∙_, subst, fun-ext}
-use mathlib.Core.Bool.{Bool, true, false, cond, _&&_}
-use mathlib.Core.List.{List, [], _∷_, _++_}
-use lib.ListN.{length, length-append}
+use mathlib.Core.Path.{_≡_, refl, sym, ap, ap₂, _∙_, fun-ext}
+use mathlib.Core.Bool.{true, cond}
+use mathlib.Core.List.{List, _++_}
+use lib.ListN.{length}
 use lib.Dec.{leb}
 use borrow.Author.Tests.{le-leb, lt-leb}
 use Rattle.file.specs.Outcome.{Assume}
-use Rattle.file.specs.File.{Input, Accepted, Refused, header, recordBytes, recordsBytes, encode}
+use Rattle.file.specs.File.{Accepted, Refused, header, recordBytes, recordsBytes, encode}
 use Rattle.table.specs.Table.{Instr, readTable}
 use Rattle.trace.specs.Trace.{Stmt, stmtBytes, encodeTrace}
-use Rattle.write.specs.Splice.{splice, Wrote, over}
+use Rattle.write.specs.Splice.{Wrote, over}
 use Rattle.write.specs.SpliceLaws.{_then_, wrote-as, splice-over}
 use Rattle.unwind.specs.Places.{places}
-use Rattle.unwind.specs.Unwind.{Newest, statements, atFirst, opening, unwind}
+use Rattle.unwind.specs.Unwind.{atFirst, opening, unwind}
 use Rattle.unwind.specs.UnwindLaws.{unwind-count}
 use Rattle.unwind.specs.Size.{traceSize}
 use Rattle.unwind.specs.SizeLaws.{unwind-size}

@@ -7,12 +7,12 @@ use mathlib.Core.Path.{_≡_, refl, sym, ap, ap₂, _∙_, subst}
 use mathlib.Core.Bool.{true}
 use mathlib.Core.List.{List, [], _∷_, _++_, append-nil}
 use lib.ListN.{length, drop, getD, length-drop, length-append, drop-of-length-le}
-use lib.Seq.{drop-drop}
-use Rattle.expr.specs.Lists.{All}
+use Rattle.expr.specs.Lists.{All, drop-next}
 use Rattle.expr.specs.Number.{Byte}
 use Rattle.expr.specs.Token.{Const, Symbol}
 use Rattle.file.specs.Outcome.{Assume}
 use Rattle.file.specs.File.{headerInputs, Body, recordOf, recordBytes, recordsBytes}
+use Rattle.file.specs.EncodeLaws.{records-append}
 use Rattle.file.specs.Shown.{isGood, listed}
 use Rattle.table.specs.Table.{Instr, instr, readTable}
 use Rattle.table.specs.Shown.{Ready}
@@ -25,7 +25,7 @@ use Rattle.write.specs.SpliceLaws.{wrote-as, Ahead, ahead-start, ahead-step, ah
 use Rattle.unwind.specs.Places.{Set, Check, Jump, Exit, Place, At, endOf, actionIn, copyFrom, copiesFrom, places}
 use Rattle.unwind.specs.Unwind.{Newest, guarded, statement, statements, advance}
 use Rattle.unwind.specs.UnwindLaws.{after, statements-append, copy-count}
-use Rattle.unwind.specs.SizeLaws.{records-append, exit-size}
+use Rattle.unwind.specs.SizeLaws.{exit-size}
 use Rattle.unwind.specs.declared.copy.Front.{Front}
 use Rattle.unwind.specs.Shown.{newestOf, placeOf, Written}
 use Rattle.unwind.proofs.Accepted as A
@@ -50,12 +50,9 @@ after-next c (p ∷ ps) = omega (arith, advance-next c p, after-next (advance c 
 bytes-cons : (c : Newest) (p : Place) (ps : List Place) → bytesAt c (p ∷ ps) ≡ bytesAt c (p ∷ []) ++ bytesAt (advance c p) ps
 bytes-cons c p ps = ap (λ bs. bs ++ bytesAt (advance c p) ps) (sym (append-nil (recordBytes stmtBytes (statement Assume c p))))
 
-bytes-append : (c : Newest) (ps qs : List Place) → bytesAt c (ps ++ qs) ≡ bytesAt c ps ++ bytesAt (after c ps) qs
-bytes-append c ps qs =
+places-append : (c : Newest) (ps qs : List Place) → bytesAt c (ps ++ qs) ≡ bytesAt c ps ++ bytesAt (after c ps) qs
+places-append c ps qs =
     ap (recordsBytes stmtBytes) (statements-append Assume c ps qs) ∙ records-append stmtBytes (statements Assume c ps) (statements Assume (after c ps) qs)
-
-drop-next : (is : List Instr) (i : ℕ) {x : Instr} {xs : List Instr} → drop i is ≡ x ∷ xs → drop (i + 1) is ≡ xs
-drop-next is i q = sym (drop-drop 1 i is) ∙ ap (drop 1) q
 
 -- ---- one copy, from instruction i on
 
@@ -176,7 +173,7 @@ module _ {is : List Instr} {n K : ℕ} (q : length is ≡ n) {names₀ : List �
     copies-split =
         ap (λ m. bytesAt c₁ (copiesFrom is K m r)) (let z : suc K - r ≡ suc (suc K - (r + 1)) = omega arith in z)
         ∙ ap₂ (λ m k. bytesAt c₁ (copyFrom m K r 0 is ++ copiesFrom is K (suc K - (r + 1)) k)) q (sym (add-one r))
-        ∙ bytes-append c₁ (copyFrom n K r 0 is) (copiesFrom is K (suc K - (r + 1)) (r + 1))
+        ∙ places-append c₁ (copyFrom n K r 0 is) (copiesFrom is K (suc K - (r + 1)) (r + 1))
 
     pub copies-room : f₀ .to + length (bytesAt (newestAt names₀ f₀) (places is K)) ≤ length out₀ → g .to + length (bytesAt c₁ (copyFrom n K r 0 is)) ≤ length out
     copies-room l =

@@ -11,6 +11,7 @@ use Rattle.expr.specs.declared.File.the-variants.{Trace}
 use Rattle.expr.specs.Number.{bytesOf}
 use Rattle.expr.specs.Word.{Zero, Ule}
 use Rattle.expr.specs.Token.{Token, Const, Symbol, Un, Bin, Ite, tokenBytes, exprBytes}
+use Rattle.expr.specs.TokenLaws.{bytes-append}
 use Rattle.expr.specs.Eval.{renameToken, rename}
 use Rattle.file.specs.Outcome.{Assume, Assert}
 use Rattle.file.specs.File.{recordBytes}
@@ -19,7 +20,6 @@ use Rattle.trace.specs.Trace.{Stmt, Assign, Test, kindCode, stmtBytes}
 use Rattle.write.specs.Splice.{splice, Wrote}
 use Rattle.write.specs.SpliceLaws.{behind}
 use Rattle.unwind.specs.Unwind.{guarded}
-use Rattle.unwind.specs.SizeLaws.{bytes-append}
 
 pub closes : (x : Stmt) {o p q body : List ℕ} {at end r : ℕ} → Wrote o (at + 2) body p end → stmtBytes x ≡ body
     → (r ≡ end) × (q ≡ splice at (bytesOf 2 (end - (at + 2))) p) → Wrote o at (recordBytes stmtBytes x) q r

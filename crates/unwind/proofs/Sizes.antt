@@ -6,7 +6,7 @@ use native.Mathlib.Nat.{mul-le-mul-left}
 use native.Mathlib.Numerals.{add-one}
 use mathlib.Core.Path.{_≡_, refl, sym, ap, ap₂, _∙_}
 use mathlib.Core.Bool.{Bool, true, false, cond, _&&_}
-use mathlib.Core.List.{List, [], _∷_}
+use mathlib.Core.List.{List, _∷_}
 use lib.ListN.{length, take, drop, getD, length-drop, drop-of-length-le}
 use lib.Seq.{length-take-le, drop-drop}
 use lib.Dec.{eqb, leb}
@@ -16,18 +16,16 @@ use Rattle.expr.specs.Lists.{All}
 use Rattle.expr.specs.Number.{Byte, numberOf}
 use Rattle.expr.specs.Expr.{parse}
 use Rattle.expr.specs.Shown.{isWhole}
-use Rattle.file.specs.File.{Body, headerInputs, recordOf}
-use Rattle.file.specs.FileLaws.{file-is}
-use Rattle.file.specs.ReadingLaws.{short}
+use Rattle.file.specs.File.{Body, recordOf}
 use Rattle.file.specs.Shown.{isGood, kindOf, listed}
-use Rattle.table.specs.Table.{Instr, Assign, Test, IfThenGoto, instr, instrs, readTable}
+use Rattle.table.specs.Table.{Instr, Assign, Test, IfThenGoto, instr, readTable}
 use Rattle.table.specs.Shown.{exprStart, exprOf, Ready}
 use Rattle.table.proofs.Held.{Held}
 use Rattle.table.proofs.Moves.{expr-part}
 use Rattle.unwind.specs.Size.{exprSize, instrSize, copySize}
 use Rattle.expr.specs.Shown.{tokensOf}
 use Rattle.unwind.specs.Shown.{known, sizeIn}
-use Rattle.unwind.proofs.Accepted.{At, counted, few, few-inputs, small, instr-here}
+use Rattle.unwind.proofs.Accepted.{At, counted, few, few-inputs, instr-here}
 
 -- ---- one record
 

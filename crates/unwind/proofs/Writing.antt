@@ -3,7 +3,7 @@ use Prim.Native.Nat.{ℕ, suc, _+_, _-_, _*_, _≤_, _<_}
 use native.Mathlib.Omega.{arith}
 use native.Mathlib.Nat.{mul-le-mul-left, mul-le-mul-right}
 use native.Mathlib.Numerals.{add-one}
-use mathlib.Core.Path.{_≡_, refl, sym, ap, ap₂, _∙_, subst, fun-ext}
+use mathlib.Core.Path.{_≡_, refl, sym, ap, _∙_, subst, fun-ext}
 use mathlib.Core.Bool.{Bool, true, false, not, cond, _&&_}
 use mathlib.Core.List.{List, [], _∷_, _++_, append-nil}
 use lib.ListN.{length, take, drop, getD, set}
@@ -17,7 +17,7 @@ use Rattle.expr.specs.Token.{Token, Const, Symbol, Un, Ite}
 use Rattle.expr.specs.Expr.{below, Whole, parse}
 use Rattle.expr.specs.Eval.{update, rename}
 use Rattle.expr.specs.Shown.{isWhole, tokensOf}
-use Rattle.file.specs.Outcome.{Kind, Assume, Assert, Bound}
+use Rattle.file.specs.Outcome.{Assume, Assert, Bound}
 use Rattle.file.specs.File.{Body, Good, recordOf, recordBytes, recordsBytes}
 use Rattle.file.specs.Shown.{kindOf}
 use Rattle.table.specs.Table.{Instr, Assign, Test, IfThenGoto, instr}
@@ -25,11 +25,11 @@ use Rattle.table.specs.Run.{placeIn}
 use Rattle.table.specs.Shown.{exprStart, exprOf}
 use Rattle.table.proofs.Held.{Held}
 use Rattle.table.proofs.Moves.{expr-part, place-is}
-use Rattle.trace.specs.Trace.{Stmt, stmtBytes}
+use Rattle.trace.specs.Trace.{stmtBytes}
 use Rattle.trace.specs.Trace as T
 use Rattle.write.specs.Splice.{Wrote}
 use Rattle.write.specs.SpliceLaws.{wrote-as}
-use Rattle.unwind.specs.Places.{Action, Set, Check, Jump, Exit, Place, At, jumpIn, actionIn}
+use Rattle.unwind.specs.Places.{Action, Set, Check, Jump, Place, At, actionIn}
 use Rattle.unwind.specs.Unwind.{Newest, guarded, statement, becomes, statements, advance}
 use Rattle.unwind.specs.Size.{exprSize, instrSize}
 use Rattle.unwind.specs.SizeLaws.{statement-size}

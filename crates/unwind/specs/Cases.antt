@@ -1,12 +1,12 @@
 -- Document 01's worked traces, on their real bytes: computed.
 use Prim.Native.Nat.{ℕ, zero, suc}
-use mathlib.Core.Path.{_≡_, refl, _∙_}
+use mathlib.Core.Path.{_≡_, refl}
 use mathlib.Core.List.{List, [], _∷_, _++_}
 use lib.ListN.{length}
 use Rattle.expr.specs.Token.{operator, readToken}
 use Rattle.expr.specs.Expr.{fits, parseFrom}
 use Rattle.file.specs.Outcome.{Assume}
-use Rattle.file.specs.File.{headerReply, frame, recordOf, records, readFile, encode, Accepted}
+use Rattle.file.specs.File.{headerReply, frame, recordOf, records, readFile, encode}
 use Rattle.file.specs.Shown.{listed}
 use Rattle.table.specs.Table.{instr, readTable}
 use Rattle.table.specs.Cases.{smallRule}
@@ -14,8 +14,6 @@ use Rattle.trace.specs.Trace.{encodeTrace}
 use Rattle.trace.specs.Cases.{smallTrace0, smallTrace1}
 use Rattle.unwind.specs.Places.{places}
 use Rattle.unwind.specs.Unwind.{unwind}
-use Rattle.unwind.specs.Size.{traceSize}
-use Rattle.unwind.specs.SizeLaws.{unwind-size}
 use Rattle.unwind.specs.Answer.{Traced, refusal, traceAnswer}
 
 abbrev written : List ℕ → Traced

@@ -1,13 +1,12 @@
 -- The gated run: straight over the list of places, none left out, with control as a number. A place acts only where it is active,
 -- that is where control is at most its number. It stands between judging a trace and running a table, and serves only their agreement.
-use Prim.Native.Nat.{ℕ, _<_}
+use Prim.Native.Nat.{ℕ}
 use mathlib.Core.Bool.{cond}
 use mathlib.Core.List.{List, [], _∷_}
 use lib.Dec.{leb}
 use Rattle.expr.specs.Word.{truthy}
 use Rattle.expr.specs.Eval.{Env, update, value}
 use Rattle.file.specs.Outcome.{Kind, Outcome, Ended, Failed, Lost}
-use Rattle.table.specs.TableLaws.{ExprOk}
 use Rattle.unwind.specs.Places.{Action, Set, Check, Jump, Exit, Place, At}
 use Rattle.unwind.specs.Unwind.{becomes}
 
@@ -30,10 +29,3 @@ abbrev pub shownAs : (cut : Kind) → Outcome → Outcome
 shownAs cut Ended = Ended
 shownAs cut (Failed k p) = Failed (becomes cut k) p
 shownAs cut Lost = Lost
-
--- a place sets a program symbol, and its expression is one over the program symbols
-abbrev pub PlaceOk : (S : ℕ) → Place → Type 0
-PlaceOk S (At j (Set s e)) = (s < S) × ExprOk S e
-PlaceOk S (At j (Check k e)) = ExprOk S e
-PlaceOk S (At j (Jump g e)) = ExprOk S e
-PlaceOk S (At j (Exit g)) = Unit {0}

@@ -4,19 +4,19 @@ use Prim.Native.Nat.{ℕ, zero, suc, _+_, _-_, _*_, _≤_, _<_}
 use native.Mathlib.Omega.{arith}
 use native.Mathlib.Nat.{add-zero}
 use native.Mathlib.Numerals.{add-one}
-use mathlib.Core.Path.{_≡_, refl, sym, ap, _∙_, fun-ext}
+use mathlib.Core.Path.{_≡_, refl, sym, ap, _∙_}
 use mathlib.Core.Bool.{Bool, true, false, cond}
 use mathlib.Core.List.{List, [], _∷_, _++_}
 use lib.ListN.{length, drop, length-drop}
 use lib.Seq.{drop-drop}
 use lib.Dec.{eqb, leb}
-use borrow.Author.Tests.{eqb-true, eq-eqb, ne-eqb, leb-false, le-leb, lt-leb, ltb-true, lt-ltb, le-ltb}
-use Rattle.expr.specs.Lists.{All, all-drop}
+use borrow.Author.Tests.{leb-false, le-leb, lt-leb, ltb-true, lt-ltb, le-ltb}
+use Rattle.expr.specs.Lists.{All, all-drop, drop-next}
 use Rattle.expr.specs.Word.{Zero, truthy, test, unary, binary}
 use Rattle.expr.specs.Token.{Token, Const, Symbol, Un, Ite}
 use Rattle.expr.specs.Expr.{below}
 use Rattle.expr.specs.Eval.{Env, envOf, update, eval, top, value, rename}
-use Rattle.expr.specs.EvalLaws.{eval-append, eval-push, push-rename}
+use Rattle.expr.specs.EvalLaws.{update-same, update-other, update-self, eval-append, eval-push, push-rename}
 use Rattle.file.specs.Outcome.{Kind, Outcome, Ended, Failed}
 use Rattle.table.specs.Table.{Instr, Assign, Test, IfThenGoto}
 use Rattle.table.specs.TableLaws.{ExprOk, InstrOk}
@@ -24,22 +24,8 @@ use Rattle.table.specs.Run.{placeIn, Halt, Go, step, stepAt, onward, runFrom, r
 use Rattle.trace.specs.Judge.{judge}
 use Rattle.unwind.specs.Places.{Action, Set, Check, Jump, Exit, Place, At, endOf, jumpIn, actionIn, copyFrom, copiesFrom, places}
 use Rattle.unwind.specs.Unwind.{Newest, guarded, becomes, makesCurrent, makesControl, statements}
-use Rattle.unwind.specs.Gated.{gate, act, gatedRun, shownAs, PlaceOk}
-
--- ---- one symbol's value
-
-pub update-same : (ρ : Env) (s v : ℕ) → update ρ s v s ≡ v
-update-same ρ s v = ap (λ b. cond b v (ρ s)) (eq-eqb s s refl)
-
-pub update-other : (ρ : Env) (s v x : ℕ) → (x ≡ s → ⊥) → update ρ s v x ≡ ρ x
-update-other ρ s v x n = ap (λ b. cond b v (ρ x)) (ne-eqb x s n)
-
-update-self : (ρ : Env) (s : ℕ) → update ρ s (ρ s) ≡ ρ
-update-self ρ s = fun-ext (λ x. go x (eqb x s) refl)
-  where
-    go : (x : ℕ) (b : Bool) → eqb x s ≡ b → cond b (ρ s) (ρ x) ≡ ρ x
-    go x true e = ap ρ (sym (eqb-true x s e))
-    go x false e = refl
+use Rattle.unwind.specs.UnwindLaws.{PlaceOk}
+use Rattle.unwind.specs.Gated.{gate, act, gatedRun, shownAs}
 
 -- ---- judging is the gated run
 
@@ -130,24 +116,24 @@ module _ (cut : Kind) where
       go true = q
       go false = refl
 
-  pub judge-gated : (S : ℕ) (ps : List Place) → All (PlaceOk S) ps → (c : Newest) (σ ρ : Env) (w : ℕ) → Mirrors S c σ ρ w
+  pub judge-gated : (S limit : ℕ) (ps : List Place) → All (PlaceOk S limit) ps → (c : Newest) (σ ρ : Env) (w : ℕ) → Mirrors S c σ ρ w
       → judge (statements cut c ps) σ ≡ shownAs cut (gatedRun ps w ρ)
   unfolding judge
-  judge-gated S [] o c σ ρ w m = refl
-  judge-gated S (At j (Set s e) ∷ ps) o c σ ρ w m =
+  judge-gated S limit [] o c σ ρ w m = refl
+  judge-gated S limit (At j (Set s e) ∷ ps) o c σ ρ w m =
       let v : ℕ = gate w j (value ρ e) (ρ s) in
-      ap (λ u. judge (statements cut (makesCurrent c s) ps) (update σ (c .next) u)) (set-value S c σ ρ w m j e (o .0 .1) s (o .0 .0))
-      ∙ judge-gated S ps (o .1) (makesCurrent c s) (update σ (c .next) v) (update ρ s v) w (current-mirrors S c σ ρ w m s v)
-  judge-gated S (At j (Check k e) ∷ ps) o c σ ρ w m =
-      test-shown k j _ _ (judge (statements cut c ps) σ) (gatedRun ps w ρ) (check-value S c σ ρ w m j e (o .0)) (judge-gated S ps (o .1) c σ ρ w m)
-  judge-gated S (At j (Jump g e) ∷ ps) o c σ ρ w m =
+      ap (λ u. judge (statements cut (makesCurrent c s) ps) (update σ (c .next) u)) (set-value S c σ ρ w m j e (o .0 .1 .1) s (o .0 .1 .0))
+      ∙ judge-gated S limit ps (o .1) (makesCurrent c s) (update σ (c .next) v) (update ρ s v) w (current-mirrors S c σ ρ w m s v)
+  judge-gated S limit (At j (Check k e) ∷ ps) o c σ ρ w m =
+      test-shown k j _ _ (judge (statements cut c ps) σ) (gatedRun ps w ρ) (check-value S c σ ρ w m j e (o .0 .1)) (judge-gated S limit ps (o .1) c σ ρ w m)
+  judge-gated S limit (At j (Jump g e) ∷ ps) o c σ ρ w m =
       let v : ℕ = gate w j (cond (truthy (value ρ e)) g w) w in
-      ap (λ u. judge (statements cut (makesControl c) ps) (update σ (c .next) u)) (jump-value S c σ ρ w m j e (o .0) g)
-      ∙ judge-gated S ps (o .1) (makesControl c) (update σ (c .next) v) ρ v (control-mirrors S c σ ρ w m v)
-  judge-gated S (At j (Exit g) ∷ ps) o c σ ρ w m =
+      ap (λ u. judge (statements cut (makesControl c) ps) (update σ (c .next) u)) (jump-value S c σ ρ w m j e (o .0 .1 .1) g)
+      ∙ judge-gated S limit ps (o .1) (makesControl c) (update σ (c .next) v) ρ v (control-mirrors S c σ ρ w m v)
+  judge-gated S limit (At j (Exit g) ∷ ps) o c σ ρ w m =
       let v : ℕ = gate w j g w in
       ap (λ u. judge (statements cut (makesControl c) ps) (update σ (c .next) u)) (exit-value S c σ ρ w m j g)
-      ∙ judge-gated S ps (o .1) (makesControl c) (update σ (c .next) v) ρ v (control-mirrors S c σ ρ w m v)
+      ∙ judge-gated S limit ps (o .1) (makesControl c) (update σ (c .next) v) ρ v (control-mirrors S c σ ρ w m v)
 
 -- ---- places below control do nothing
 
@@ -183,9 +169,6 @@ copies-idle is K (suc c) r w ρ h =
     ∙ copies-idle is K c (suc r) w ρ (omega arith)
 
 -- ---- the gated run is the direct run
-
-drop-next : (is : List Instr) (i : ℕ) {x : Instr} {xs : List Instr} → drop i is ≡ x ∷ xs → drop (suc i) is ≡ xs
-drop-next is i q = ap (λ k. drop k is) (sym (add-one i)) ∙ sym (drop-drop 1 i is) ∙ ap (drop 1) q
 
 -- the bound's test
 bound-value : (S : ℕ) (ρ : Env) (e : List Token) → ExprOk S e → value ρ (e ++ Un Zero ∷ []) ≡ test (eqb (value ρ e) 0)
@@ -258,7 +241,7 @@ module _ (S : ℕ) (is : List Instr) (K f : ℕ) (follows : Follows is K f) wher
       ap (λ t. gatedRun (copiesFrom is K c (suc r)) (cond t (endOf n K) w) ρ) (le-leb w (placeIn n r i) active)
       ∙ copies-idle is K c (suc r) (endOf n K) ρ (omega (arith, ap (λ x. x * suc n) k))
   copy-follows (x ∷ xs) c r i w ρ q o k active m =
-      step-follows c r i w xs (omega (arith, ap length q, length-drop i is)) (drop-next is i q) active k m x ρ (o .0)
+      step-follows c r i w xs (omega (arith, ap length q, length-drop i is)) (ap (λ k. drop k is) (sym (add-one i)) ∙ drop-next is i q) active k m x ρ (o .0)
 
 run-follows : (S : ℕ) (is : List Instr) (K : ℕ) → All (InstrOk S (length is)) is → (f : ℕ) → Follows is K f
 run-follows S is K o zero c r i w ρ k h active m = absurd (omega arith)

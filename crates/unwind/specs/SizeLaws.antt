@@ -2,19 +2,20 @@
 -- its instruction, and a copy's that of the table: one size for the copies before the last, one for the last.
 use Prim.Native.Nat.{ℕ, zero, suc, _+_, _*_, _≤_}
 use native.Mathlib.Omega.{arith}
-use mathlib.Core.Path.{_≡_, refl, sym, ap, _∙_}
+use mathlib.Core.Path.{_≡_, refl, ap, _∙_}
 use mathlib.Core.Bool.{Bool, true, false, cond, not, _&&_}
-use mathlib.Core.List.{List, [], _∷_, _++_, append-assoc}
+use mathlib.Core.List.{List, [], _∷_, _++_}
 use lib.ListN.{length, length-append}
 use lib.Dec.{leb, ltb}
 use borrow.Author.Tests.{le-ltb, lt-ltb}
-use Rattle.expr.specs.declared.File.{File}
 use Rattle.expr.specs.declared.File.the-variants.{Table, Trace}
 use Rattle.expr.specs.Word.{Zero}
 use Rattle.expr.specs.Token.{Token, Const, Symbol, Un, Bin, Ite, operands, tokenBytes, exprBytes}
+use Rattle.expr.specs.TokenLaws.{bytes-append}
 use Rattle.expr.specs.Eval.{rename}
 use Rattle.file.specs.Outcome.{Kind, Bound}
 use Rattle.file.specs.File.{recordBytes, recordsBytes, encode}
+use Rattle.file.specs.EncodeLaws.{records-append}
 use Rattle.table.specs.Table.{Instr, Assign, Test, IfThenGoto}
 use Rattle.table.specs.Run.{placeIn}
 use Rattle.trace.specs.Trace.{stmtBytes, encodeTrace}
@@ -24,10 +25,6 @@ use Rattle.unwind.specs.UnwindLaws.{after, statements-append}
 use Rattle.unwind.specs.Size.{exprSize, instrSize, copySize, traceSize}
 
 -- ---- expressions
-
-pub bytes-append : (F : File) (a b : List Token) → exprBytes F (a ++ b) ≡ exprBytes F a ++ exprBytes F b
-bytes-append F [] b = refl
-bytes-append F (t ∷ a) b = ap (λ bs. tokenBytes F t ++ bs) (bytes-append F a b) ∙ sym (append-assoc (tokenBytes F t) (exprBytes F a) (exprBytes F b))
 
 size-append : (a b : List Token) → exprSize (a ++ b) ≡ exprSize a + exprSize b
 size-append a b = ap length (bytes-append Trace a b) ∙ length-append (exprBytes Trace a) (exprBytes Trace b)
@@ -91,11 +88,6 @@ pub opening-size : (S : ℕ) → length (recordBytes stmtBytes (opening S)) ≡ 
 opening-size S = refl
 
 -- ---- copies
-
-pub records-append : {A : Type 0} (bytes : A → List ℕ) (xs ys : List A) → recordsBytes bytes (xs ++ ys) ≡ recordsBytes bytes xs ++ recordsBytes bytes ys
-records-append bytes [] ys = refl
-records-append bytes (x ∷ xs) ys =
-    ap (λ bs. recordBytes bytes x ++ bs) (records-append bytes xs ys) ∙ sym (append-assoc (recordBytes bytes x) (recordsBytes bytes xs) (recordsBytes bytes ys))
 
 module _ (cut : Kind) where
   pub copy-size : (c : Newest) (n K r i : ℕ) (last : Bool) (xs : List Instr) → ltb r K ≡ not last

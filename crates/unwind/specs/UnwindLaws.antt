@@ -11,7 +11,7 @@ use lib.ListN.{length, length-append}
 use lib.Dec.{eqb, leb, ltb}
 use borrow.Author.Tests.{eq-eqb, lt-ltb, ltb-true}
 use Rattle.expr.specs.declared.File.the-variants.{Table, Trace}
-use Rattle.expr.specs.Lists.{All, or-left, or-right}
+use Rattle.expr.specs.Lists.{All, or-left, or-right, all-append}
 use Rattle.expr.specs.Word.{Zero}
 use Rattle.expr.specs.Token.{Token, Const, Symbol, Un, Bin, Ite}
 use Rattle.expr.specs.TokenLaws.{Holds}
@@ -76,10 +76,6 @@ ActionOk S limit (Exit g) = g ≤ limit
 
 abbrev pub PlaceOk : (S limit : ℕ) → Place → Type 0
 PlaceOk S limit (At j a) = (j < limit) × ActionOk S limit a
-
-all-append {ℓ} : {A : Type ℓ} (P : A → Type 0) (xs ys : List A) → All P xs → All P ys → All P (xs ++ ys)
-all-append P [] ys h k = k
-all-append P (x ∷ xs) ys h k = (h .0, all-append P xs ys (h .1) k)
 
 pub place-lt : (n K r i : ℕ) → r ≤ K → i ≤ n → placeIn n r i < endOf n K
 place-lt n K r i h k = omega (arith, mul-le-mul-right (suc n) h)

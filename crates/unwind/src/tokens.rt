@@ -3,7 +3,7 @@ use expr::number;
 ghost use mathlib.Core.Path.{_≡_};
 ghost use mathlib.Core.Bool.{true};
 ghost use Prim.Native.Nat.{_+_, _*_, _≤_, _<_};
-ghost use lib.ListN.{length, drop, getD};
+ghost use lib.ListN.{length, drop};
 ghost use Rattle.expr.specs.declared.File.the-variants.{Table, Trace};
 ghost use Rattle.expr.specs.Token.{readToken, exprBytes};
 ghost use Rattle.expr.specs.Expr.{below, parse};

@@ -2,8 +2,6 @@ use borrow.Author.Needs.{needs}
 use Rattle.unwind.proofs.write_all.Statement.{statement}
 use Rattle.unwind.proofs.write_all.Tie as tie
 use native.Mathlib.Omega.{arith}
-use mathlib.Core.Path.{_≡_, sym, ap, _∙_}
-use lib.ListN.{length}
 use Rattle.expr.specs.Lists.{All, all-at}
 use Rattle.expr.specs.Number.{Byte}
 use Rattle.file.specs.Shown.{listed}

@@ -2,9 +2,8 @@
 use Rattle.unwind.proofs.copy.write_copies.Statement.{statement}
 use Rattle.unwind.proofs.copy.write_copies.Tie as tie
 use Prim.Native.Nat.{_-_, _+_}
-use borrow.Author.Needs.{needs}
 use native.Mathlib.Omega.{arith}
-use mathlib.Core.Path.{_≡_, _∙_}
+use mathlib.Core.Path.{_≡_}
 use lib.ListN.{length}
 use Rattle.expr.specs.Lists.{all-at}
 use Rattle.expr.specs.Number.{Byte}

@@ -4,9 +4,8 @@ use Rattle.unwind.proofs.copy.write_place.Statement.{statement}
 use Rattle.unwind.proofs.copy.write_place.Tie as tie
 use Prim.Native.Nat.{_+_, _*_, _≤_, _<_}
 use native.Mathlib.Omega.{arith}
-use mathlib.Core.Path.{_≡_, refl}
-use lib.ListN.{length, getD}
-use Rattle.table.specs.Shown.{exprStart}
+use mathlib.Core.Path.{refl}
+use lib.ListN.{length}
 use Rattle.table.proofs.Held.{Held, held-at}
 use Rattle.unwind.proofs.Writing.{place-little, assign-starts, test-starts, part-whole, assign-room, assign-written, test-room, test-written}
 

@@ -3,7 +3,6 @@ use Rattle.unwind.proofs.tokens.expr_size.Statement.{statement}
 use Rattle.unwind.proofs.tokens.expr_size.Tie as tie
 use native.Mathlib.Omega.{arith}
 use Prim.Native.Nat.{_-_}
-use mathlib.Core.Path.{refl}
 use lib.ListN.{length}
 use Rattle.unwind.proofs.Exprs.{Measuring, MeasureOn, measuring-start, measure-on, measured}
 use borrow.Author.Needs.{needs}

@@ -1,6 +1,5 @@
 use Rattle.unwind.proofs.tokens.span_of.Statement.{statement}
 use Rattle.unwind.proofs.tokens.span_of.Tie as tie
-use native.Mathlib.Omega.{arith}
 use mathlib.Core.Path.{refl}
 use borrow.Author.Tests.{eq-eqb, ne-eqb}
 

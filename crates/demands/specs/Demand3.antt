@@ -1,0 +1,70 @@
+-- Demand 3, as the user put it:
+--
+--   "For every accepted table, every bound for which its trace can be written, and every valuation of the right length: the table reaches a
+--   failing assertion, with no more back jumps than the bound allows, exactly if the whole trace is violated and exactly if its slice is
+--   violated, and all three name one and the same place. Two valuations that agree on the inputs the slice reports as read get one verdict
+--   and one place."
+--
+-- It is stated over bytes and over the answers that the public calls are proved to give: `runAnswer` of `run`, `judgeAnswer` of `judge`,
+-- `traceAnswer` of `write_trace`, `sliceAnswer` of `slice_trace`. A valuation is a list of numbers, one for each of the S inputs of the
+-- table's header; that they are words is not needed. Demand3Proof proves `Demand3` for every table, bound and room for which writing the
+-- trace answers 0.
+use Prim.Native.Nat.{ℕ, _≤_, _<_}
+use mathlib.Core.Path.{_≡_}
+use mathlib.Core.Logic.{_↔_}
+use mathlib.Core.List.{List}
+use lib.ListN.{length, getD}
+use Rattle.expr.specs.Word.{bit}
+use Rattle.file.specs.File.{headerInputs}
+use Rattle.table.specs.declared.Answer as Ran
+use Rattle.table.specs.Answer.{runAnswer}
+use Rattle.trace.specs.declared.Answer as Judged
+use Rattle.trace.specs.Answer.{judgeAnswer}
+use Rattle.slice.specs.Answer.{Sliced, sliceAnswer}
+
+-- ---- what an answer says
+
+-- unsafe at place p: reply 0 is done, verdict 1 is unsafe
+abbrev pub RunUnsafeAt : (p : ℕ) → Ran.Answer → Type 0
+RunUnsafeAt p a = (a .reply ≡ 0) × (a .verdict ≡ 1) × (a .place ≡ p)
+
+abbrev pub UnsafeAt : (p : ℕ) → Judged.Answer → Type 0
+UnsafeAt p a = (a .reply ≡ 0) × (a .verdict ≡ 1) × (a .place ≡ p)
+
+-- one verdict and one place (two runs may still take different numbers of back jumps)
+abbrev pub RunOneVerdict : (a a′ : Ran.Answer) → Type 0
+RunOneVerdict a a′ = (a .verdict ≡ a′ .verdict) × (a .place ≡ a′ .place)
+
+abbrev pub OneVerdict : (a a′ : Judged.Answer) → Type 0
+OneVerdict a a′ = (a .verdict ≡ a′ .verdict) × (a .place ≡ a′ .place)
+
+-- ---- run, trace and slice
+
+-- two valuations of the table's inputs that agree on those whose bits are set in a mask
+pub record AgreeOn (S mask : ℕ) (v w : List ℕ) : Type 0 where
+  pub first-length : length v ≡ S
+  pub second-length : length w ≡ S
+  pub read-inputs : (s : ℕ) → s < S → bit s mask ≡ 1 → getD v s 0 ≡ getD w s 0
+
+-- the table's bytes b under bound K, the trace's bytes t, and the answer q to slicing them
+pub record OneAnswer (b : List ℕ) (K : ℕ) (t : List ℕ) (q : Sliced) : Type 0 where
+  -- a valuation of the right length is not refused: not by running, nor by judging the trace, nor by judging its slice
+  pub none-refused : (v : List ℕ) → length v ≡ headerInputs b
+      → ((runAnswer b K v) .reply ≡ 0) × ((judgeAnswer t v) .reply ≡ 0) × ((judgeAnswer (q .bytes) v) .reply ≡ 0)
+  -- the table reaches a failing assertion exactly if the whole trace is violated, at one and the same place (for every valuation: one of
+  -- a wrong length is refused by all three, and unsafe by none)
+  pub run-trace : (v : List ℕ) (p : ℕ) → RunUnsafeAt p (runAnswer b K v) ↔ UnsafeAt p (judgeAnswer t v)
+  -- and exactly if its slice is violated, at that same place
+  pub run-slice : (v : List ℕ) (p : ℕ) → RunUnsafeAt p (runAnswer b K v) ↔ UnsafeAt p (judgeAnswer (q .bytes) v)
+  -- two valuations that agree on the inputs that the slice reports as read get one verdict and one place, from all three
+  pub read-decides : (v w : List ℕ) → AgreeOn (headerInputs b) (q .mask) v w
+      → RunOneVerdict (runAnswer b K v) (runAnswer b K w)
+      × OneVerdict (judgeAnswer t v) (judgeAnswer t w)
+      × OneVerdict (judgeAnswer (q .bytes) v) (judgeAnswer (q .bytes) w)
+
+-- t is the trace that is written of the table b under bound K
+pub record Demand3 (b : List ℕ) (K : ℕ) (t : List ℕ) : Type 0 where
+  -- slicing it refuses nothing, given as much room as the trace takes
+  pub sliced : (room : ℕ) → length t ≤ room → (sliceAnswer t room) .reply ≡ 0
+  -- and whenever it is sliced, in whatever room, run, trace and slice answer alike
+  pub alike : (room : ℕ) → (sliceAnswer t room) .reply ≡ 0 → OneAnswer b K t (sliceAnswer t room)
