@@ -1,5 +1,8 @@
 -- What the user has been promised: each statement, and its proof beside it.
+pub mod Replies
 pub mod Demand3
 pub mod Demand3Proof
 -- Each public call's statement determines its answer and its buffer.
 pub mod Determined
+-- Document 01's marked cases, as one collection.
+pub mod Marked

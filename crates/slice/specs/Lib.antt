@@ -4,5 +4,6 @@ pub mod SliceLaws
 pub mod Mask
 pub mod MaskLaws
 pub mod Answer
+pub mod Cases
 -- What the code's values mean in these terms.
 pub mod Shown

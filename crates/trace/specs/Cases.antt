@@ -109,7 +109,7 @@ unfolding judgeAnswer readTrace readFile headerReply records recordOf frame stmt
 m4 = refl
 
 -- the trace of a table without instructions
-abbrev noInstructions : List ℕ
+abbrev pub noInstructions : List ℕ
 noInstructions =
     0x81 ∷ 0x00 ∷ 0x2B ∷ 0x00 ∷ 0x00 ∷ 0x02
     ∷ 0x00 ∷ 0x0A ∷ 0x01 ∷ 0xFF ∷ 0xFF ∷ 0x00 ∷ 0x00
@@ -124,7 +124,7 @@ unfolding judgeAnswer readTrace readFile headerReply records recordOf frame stmt
 m11 = refl
 
 -- source 000's example: s1 = s0 + 1 at 0; assert s1 ult 10 at 1
-abbrev example : List ℕ
+abbrev pub example : List ℕ
 example =
     0x81 ∷ 0x00 ∷ 0x24 ∷ 0x01 ∷ 0x00 ∷ 0x02
     ∷ 0x00 ∷ 0x0E ∷ 0x01 ∷ 0x00 ∷ 0x00 ∷ 0x00 ∷ 0x01
