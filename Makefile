@@ -1,8 +1,8 @@
 # make run     the slice of a rule          make bench   speed against plain Rust, as ratios
 # make test    the gate                     make lib     target/staticlib/libkadvitul.a, for C and Rust
-# make fmt     lay every file out
+# make fmt     lay every file out          make mutants wrong definitions, and which proof refuses each
 
-.PHONY: run test bench lib fmt
+.PHONY: run test bench lib fmt mutants
 
 run:
 	@echo "make run: the slice printer is not built yet (README.md says what is there)"
@@ -19,3 +19,6 @@ lib:
 fmt:
 	rt fmt
 	cd host && cargo fmt
+
+mutants:
+	@tools/mutants

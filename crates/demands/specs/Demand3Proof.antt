@@ -17,16 +17,16 @@ use mathlib.Core.Path.{_≡_, refl, sym, ap, _∙_, subst}
 use mathlib.Core.Logic.{_↔_}
 use mathlib.Core.Bool.{Bool, true, false, cond, _&&_}
 use mathlib.Core.List.{List, [], _∷_}
-use lib.ListN.{length, drop, getD, List·getD-eq-default}
+use lib.ListN.{length, getD, List·getD-eq-default}
 use lib.Dec.{eqb, leb, ltb}
-use borrow.Author.Tests.{eqb-true, eqb-false, eq-eqb, leb-true, le-leb, ltb-true}
+use borrow.Author.Tests.{eq-eqb, leb-true, le-leb, ltb-true}
 use Rattle.expr.specs.Lists.{All, all-at, and-both, every-below}
 use Rattle.expr.specs.Number.{Byte}
 use Rattle.expr.specs.Word.{test}
 use Rattle.expr.specs.Eval.{envOf}
 use Rattle.file.specs.Outcome.{Assume, verdict, placeOf}
-use Rattle.file.specs.File.{headerInputs, headerCount, headerReply, Body, Records, Read, Stop, Input, Accepted, Refused, records, finish, readFile}
-use Rattle.file.specs.FileLaws.{Low, stop-low, file-read, file-refused, file-is}
+use Rattle.file.specs.File.{headerInputs, Input, Accepted, Refused}
+use Rattle.file.specs.FileLaws.{file-is, file-refused-positive}
 use Rattle.table.specs.declared.Answer as Ran
 use Rattle.table.specs.Table.{Instr, instr, instrs, readTable}
 use Rattle.table.specs.TableLaws.{instr-low, IsTable, table-ok}
@@ -55,33 +55,6 @@ use Rattle.slice.specs.Answer.{sliceAnswer}
 use Rattle.demands.specs.Demand3.{RunUnsafeAt, UnsafeAt, RunOneVerdict, OneVerdict, AgreeOn, OneAnswer, Demand3}
 
 -- ---- the trace can be written
-
--- a refused file's reply is not 0
-module _ {A St : Type 0} (version limit : ℕ) (one : (S n : ℕ) → St → List ℕ → Body A) (next : St → A → St) (first : (S : ℕ) → St)
-    (low : (S n : ℕ) (σ : St) (bs : List ℕ) → Low (one S n σ bs)) (s : List ℕ) where
-  abbrev body : (S n : ℕ) → List ℕ → Records A
-  body S n bs = records (one S n) next n (first S) bs
-
-  file-refused-positive : (r at : ℕ) → readFile version limit body s ≡ Refused r at → 0 < r
-  file-refused-positive r at h = go (eqb (headerReply version limit s) 0) refl
-    where
-      S : ℕ
-      S = headerInputs s
-
-      n : ℕ
-      n = headerCount s
-
-      done : (p : Records A) → body S n (drop 6 s) ≡ p → finish (length s) S p ≡ Refused r at → 0 < r
-      done (Read xs) q e = absurd (let z : _≡_ {A = ℕ} 0 1 = cc in omega arith)
-      done (Stop k bs) q e = let z : k ≡ r = cc in omega (arith, stop-low (one S n) next (low S n) n (first S) (drop 6 s) k bs q)
-
-      go : (x : Bool) → eqb (headerReply version limit s) 0 ≡ x → 0 < r
-      go true e = done (body S n (drop 6 s)) refl (sym (file-read version limit body s (eqb-true (headerReply version limit s) 0 e)) ∙ h)
-      go false e =
-          let some : headerReply version limit s ≡ 0 → ⊥ = eqb-false (headerReply version limit s) 0 e in
-          let f = sym (file-refused version limit body s (headerReply version limit s) refl some) ∙ h in
-          let z : headerReply version limit s ≡ r = cc in
-          omega (arith, some)
 
 table-refused-positive : (b : List ℕ) (r at : ℕ) → readTable b ≡ Refused r at → 0 < r
 unfolding readTable

@@ -325,6 +325,33 @@ module _ {A : Type 0} (version limit : ℕ) (body : (S n : ℕ) → List ℕ →
       go true e = let z = eqb-true (headerReply version limit s) 0 e in done (body (headerInputs s) (headerCount s) (drop 6 s)) refl (sym (file-read z) ∙ h) z
       go false e = absurd (let z = sym h ∙ file-refused (headerReply version limit s) refl (eqb-false (headerReply version limit s) 0 e) in let y : _≡_ {A = ℕ} 0 1 = cc in omega arith)
 
+-- a refused file's reply is not 0
+module _ {A St : Type 0} (version limit : ℕ) (one : (S n : ℕ) → St → List ℕ → Body A) (next : St → A → St) (first : (S : ℕ) → St)
+    (low : (S n : ℕ) (σ : St) (bs : List ℕ) → Low (one S n σ bs)) (s : List ℕ) where
+  abbrev body : (S n : ℕ) → List ℕ → Records A
+  body S n bs = records (one S n) next n (first S) bs
+
+  pub file-refused-positive : (r at : ℕ) → readFile version limit body s ≡ Refused r at → 0 < r
+  file-refused-positive r at h = go (eqb (headerReply version limit s) 0) refl
+    where
+      S : ℕ
+      S = headerInputs s
+
+      n : ℕ
+      n = headerCount s
+
+      done : (p : Records A) → body S n (drop 6 s) ≡ p → finish (length s) S p ≡ Refused r at → 0 < r
+      done (Read xs) q e = absurd (let z : _≡_ {A = ℕ} 0 1 = cc in omega arith)
+      done (Stop k bs) q e = let z : k ≡ r = cc in omega (arith, stop-low (one S n) next (low S n) n (first S) (drop 6 s) k bs q)
+
+      go : (x : Bool) → eqb (headerReply version limit s) 0 ≡ x → 0 < r
+      go true e = done (body S n (drop 6 s)) refl (sym (file-read version limit body s (eqb-true (headerReply version limit s) 0 e)) ∙ h)
+      go false e =
+          let some : headerReply version limit s ≡ 0 → ⊥ = eqb-false (headerReply version limit s) 0 e in
+          let f = sym (file-refused version limit body s (headerReply version limit s) refl some) ∙ h in
+          let z : headerReply version limit s ≡ r = cc in
+          omega (arith, some)
+
 -- ---- where records stand
 
 pub offsets-length : (c at : ℕ) (bs : List ℕ) → length (offsetsFrom c at bs) ≡ c

@@ -6,7 +6,7 @@ use native.Mathlib.Nat.{add-mul-div-right, mul-assoc, pow-suc}
 use native.Mathlib.Decide.{decLt}
 use mathlib.Core.Path.{_≡_, refl, sym, ap, ap₂, _∙_}
 use mathlib.Core.Bool.{Bool, true, false}
-use lib.Pow.{pow-pos, pow-add, pow-mono, high}
+use lib.Pow.{pow-pos, pow-add, high}
 use lib.Count.{ones, ones-cat}
 use lib.Bits.{block-odd}
 use Rattle.expr.specs.Word.{test, bit}
@@ -21,10 +21,6 @@ test-times false p = omega arith
 pub mask-lt : (n : ℕ) (f : ℕ → Bool) → maskOf n f < 2 ^ n
 mask-lt zero f = omega arith
 mask-lt (suc n) f = omega (arith, mask-lt n f, test-times (f n) (2 ^ n), pow-suc 2 n)
-
--- with at most 64 inputs the mask is a word of 64 bits
-pub mask-word : (n : ℕ) (f : ℕ → Bool) → n ≤ 64 → maskOf n f < 2 ^ 64
-mask-word n f h = omega (arith, mask-lt n f, pow-mono {i = n} {j = 64} h)
 
 -- only what f says below n matters
 pub mask-same : (n : ℕ) (f g : ℕ → Bool) → ((s : ℕ) → s < n → f s ≡ g s) → maskOf n f ≡ maskOf n g

@@ -15,8 +15,8 @@ use mathlib.Core.Bool.{Bool, true, false, cond, _||_}
 use mathlib.Core.Logic.{_↔_}
 use mathlib.Core.List.{List, [], _∷_}
 use lib.Dec.{eqb, leb}
-use lib.ListN.{length, drop, length-append}
-use borrow.Author.Tests.{eqb-true, eqb-false, eq-eqb}
+use lib.ListN.{length, length-append}
+use borrow.Author.Tests.{eqb-true, eq-eqb}
 use Rattle.expr.specs.Lists.{All, or-left, or-right, or-cases}
 use Rattle.expr.specs.Number.{Byte}
 use Rattle.expr.specs.Word.{truthy}
@@ -26,8 +26,8 @@ use Rattle.expr.specs.ExprLaws.{Ok, fits-is, is-fits}
 use Rattle.expr.specs.Eval.{Env, update, value, readsToken, reads}
 use Rattle.expr.specs.EvalLaws.{value-agree}
 use Rattle.file.specs.Outcome.{Kind, Assume, Assert, Bound, Outcome, Ended, Failed, Lost, verdict, placeOf}
-use Rattle.file.specs.File.{headerInputs, headerCount, headerReply, Records, Read, Stop, Input, Accepted, Refused, finish, recordBytes, recordsBytes, encode}
-use Rattle.file.specs.FileLaws.{stop-low, file-read, file-refused, file-is}
+use Rattle.file.specs.File.{Input, Accepted, Refused, recordBytes, recordsBytes, encode}
+use Rattle.file.specs.FileLaws.{file-is, file-refused-positive}
 use Rattle.file.specs.ReadingLaws.{short}
 use Rattle.trace.specs.Trace.{Stmt, Assign, Test, Seen, atFirst, see, stmt, stmts, readTrace, stmtBytes, encodeTrace, readsTrace}
 use Rattle.trace.specs.TraceLaws.{stmt-low}
@@ -271,21 +271,7 @@ slice-slice (t ∷ ts) = go (keep t ts (slice ts)) refl (slice-slice ts)
 -- a refusal's reply is not 0
 refused-positive : (s : List ℕ) (r at : ℕ) → readTrace s ≡ Refused r at → 0 < r
 unfolding readTrace
-refused-positive s r at h = go (eqb (headerReply 129 4096 s) 0) refl
-  where
-    done : (p : Records Stmt) → stmts (headerInputs s) (headerCount s) (drop 6 s) ≡ p → finish (length s) (headerInputs s) p ≡ Refused r at → 0 < r
-    done (Read ts) q e = absurd (let z : _≡_ {A = ℕ} 0 1 = cc in omega arith)
-    done (Stop k bs) q e =
-        let z : k ≡ r = cc in
-        omega (arith, stop-low (stmt (headerInputs s + 4096)) see (stmt-low (headerInputs s + 4096)) (headerCount s) (atFirst (headerInputs s)) (drop 6 s) k bs q)
-
-    go : (b : Bool) → eqb (headerReply 129 4096 s) 0 ≡ b → 0 < r
-    go true e = done (stmts (headerInputs s) (headerCount s) (drop 6 s)) refl (sym (file-read 129 4096 stmts s (eqb-true (headerReply 129 4096 s) 0 e)) ∙ h)
-    go false e =
-        let n : headerReply 129 4096 s ≡ 0 → ⊥ = eqb-false (headerReply 129 4096 s) 0 e in
-        let f = sym (file-refused 129 4096 stmts s (headerReply 129 4096 s) refl n) ∙ h in
-        let z : headerReply 129 4096 s ≡ r = cc in
-        omega (arith, n)
+refused-positive s = file-refused-positive 129 4096 (λ S n. stmt (S + 4096)) see atFirst (λ S n. stmt-low (S + 4096)) s
 
 -- slicing a slice's bytes answers as slicing the trace's
 pub slice-again : (s : List ℕ) (room : ℕ) → All Byte s → (sliceAnswer s room) .reply ≡ 0 → sliceAnswer ((sliceAnswer s room) .bytes) room ≡ sliceAnswer s room

@@ -1,6 +1,6 @@
 -- The unwound trace has the bytes that `Size` says. Names of symbols do not matter, as all have two bytes; so a record's size is that of
 -- its instruction, and a copy's that of the table: one size for the copies before the last, one for the last.
-use Prim.Native.Nat.{ℕ, zero, suc, _+_, _*_, _≤_}
+use Prim.Native.Nat.{ℕ, zero, suc, _+_, _*_}
 use native.Mathlib.Omega.{arith}
 use mathlib.Core.Path.{_≡_, refl, ap, _∙_}
 use mathlib.Core.Bool.{Bool, true, false, cond, not, _&&_}
@@ -8,7 +8,7 @@ use mathlib.Core.List.{List, [], _∷_, _++_}
 use lib.ListN.{length, length-append}
 use lib.Dec.{leb, ltb}
 use borrow.Author.Tests.{le-ltb, lt-ltb}
-use Rattle.expr.specs.declared.File.the-variants.{Table, Trace}
+use Rattle.expr.specs.declared.File.the-variants.{Trace}
 use Rattle.expr.specs.Word.{Zero}
 use Rattle.expr.specs.Token.{Token, Const, Symbol, Un, Bin, Ite, operands, tokenBytes, exprBytes}
 use Rattle.expr.specs.TokenLaws.{bytes-append}
@@ -20,7 +20,7 @@ use Rattle.table.specs.Table.{Instr, Assign, Test, IfThenGoto}
 use Rattle.table.specs.Run.{placeIn}
 use Rattle.trace.specs.Trace.{stmtBytes, encodeTrace}
 use Rattle.unwind.specs.Places.{Check, Jump, Exit, Place, At, actionIn, copyFrom, copiesFrom, places}
-use Rattle.unwind.specs.Unwind.{Newest, guarded, statement, advance, statements, atFirst, opening, unwind}
+use Rattle.unwind.specs.Unwind.{Newest, guarded, statement, advance, statements, atFirst, unwind}
 use Rattle.unwind.specs.UnwindLaws.{after, statements-append}
 use Rattle.unwind.specs.Size.{exprSize, instrSize, copySize, traceSize}
 
@@ -36,15 +36,6 @@ size-rename f (Symbol s ∷ e) = omega (arith, size-rename f e)
 size-rename f (Un o ∷ e) = omega (arith, size-rename f e)
 size-rename f (Bin o ∷ e) = omega (arith, size-rename f e)
 size-rename f (Ite ∷ e) = omega (arith, size-rename f e)
-
--- a symbol's two bytes in the table become three
-pub expr-size-le : (e : List Token) → 2 * exprSize e ≤ 3 * length (exprBytes Table e)
-expr-size-le [] = omega arith
-expr-size-le (Const n ∷ e) = omega (arith, expr-size-le e)
-expr-size-le (Symbol s ∷ e) = omega (arith, expr-size-le e)
-expr-size-le (Un o ∷ e) = omega (arith, expr-size-le e)
-expr-size-le (Bin o ∷ e) = omega (arith, expr-size-le e)
-expr-size-le (Ite ∷ e) = omega (arith, expr-size-le e)
 
 guarded-size : (W j : ℕ) (body : List Token) (old : Token) → exprSize (guarded W j body old) ≡ 10 + exprSize body + length (tokenBytes Trace old)
 guarded-size W j body old = omega (arith, size-append body (old ∷ Ite ∷ []), length-append (operands Trace old) (exprBytes Trace (Ite ∷ [])))
@@ -83,9 +74,6 @@ module _ (cut : Kind) (c : Newest) (j : ℕ) where
       go false true = jump-size (placeIn n r t) e
       go true false = jump-size (placeIn n (suc r) t) e
       go true true = omega (arith, check-size Bound (e ++ Un Zero ∷ []), size-append e (Un Zero ∷ []))
-
-pub opening-size : (S : ℕ) → length (recordBytes stmtBytes (opening S)) ≡ 12
-opening-size S = refl
 
 -- ---- copies
 
