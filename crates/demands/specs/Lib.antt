@@ -1,5 +1,9 @@
 -- What the user has been promised: each statement, and its proof beside it.
 pub mod Replies
+pub mod RowOrder
+pub mod RecordReplies
+pub mod FileReplies
+pub mod RepliesProof
 pub mod Demand3
 pub mod Demand3Proof
 -- Each public call's statement determines its answer and its buffer.

@@ -1,0 +1,257 @@
+-- Demand 1 is true of the four calls' answers. The steps, and why each is:
+--
+-- 1. The order is an order. The rows that can hold have ranks of their own (`RowOrder`), so two rows that are both first are one row; and
+--    a file is cleared of its rows one rank after the other. Hence a call that answers with the number and offset of a first row, or with 0
+--    where no row holds, meets demand 1 (`first-demand`).
+-- 2. One record is read as its rows decide (`RecordReplies`). It is there, its kind is known and its fields are long enough exactly if no
+--    row 5 of it holds; the reader's next test is row 6; what is then parsed is an expression exactly if row 7 does not hold, since parsing
+--    accepts just the bytes that an expression's tokens write. What a trace's reader knows after k statements is what the first k records
+--    say: the symbols that they assign may be read, and the next one is greater than all of them.
+-- 3. So a file is (`FileReplies`). The header's tests are the rows 1 to 4, in their order. From record k on, with no row before it holding,
+--    either record k is refused by its first row, at its first byte, or its three rows are cleared as well; behind the last record only
+--    spare bytes are left to refuse.
+-- 4. What a call tests after its file was accepted are its own rows, in their order, with S the header's and the list that was read.
+use Prim.Native.Nat.{ℕ, _+_, _*_, _<_}
+use native.Mathlib.Omega.{arith}
+use mathlib.Core.Path.{_≡_, refl, sym, ap, ap₂, _∙_}
+use mathlib.Core.Bool.{Bool, true, false, cond, _&&_}
+use mathlib.Core.List.{List}
+use lib.ListN.{length}
+use lib.Dec.{eqb, leb}
+use borrow.Author.Tests.{eqb-true, eqb-false, leb-true, leb-false, le-leb}
+use Rattle.expr.specs.Lists.{All, and-both, both-and}
+use Rattle.expr.specs.Number.{Byte}
+use Rattle.file.specs.Outcome.{Assume, Outcome}
+use Rattle.file.specs.File.{headerInputs, headerCount, Input, Accepted, Refused}
+use Rattle.file.specs.FileLaws.{file-is}
+use Rattle.file.specs.Shown.{listed}
+use Rattle.table.specs.Table.{Instr, instrs, readTable}
+use Rattle.table.specs.Run.{Ran, run}
+use Rattle.table.specs.Answer as Running
+use Rattle.table.specs.Answer.{runAnswer}
+use Rattle.trace.specs.Trace.{Stmt, stmts, readTrace, encodeTrace}
+use Rattle.trace.specs.Judge.{judge}
+use Rattle.trace.specs.Answer as Judging
+use Rattle.trace.specs.Answer.{judgeAnswer}
+use Rattle.unwind.specs.Unwind.{unwind}
+use Rattle.unwind.specs.Answer as Tracing
+use Rattle.unwind.specs.Answer.{traceAnswer}
+use Rattle.slice.specs.Slice.{slice}
+use Rattle.slice.specs.Answer as Slicing
+use Rattle.slice.specs.Answer.{sliceAnswer}
+use Rattle.expr.specs.Eval.{envOf}
+use Rattle.demands.specs.Replies.{Call, Run, Judge, WriteTrace, SliceTrace, bytesOf, Row, Short, Version, Total, Limits, Frame, Rule, Expression, Spare, Bound, Size, Room, Valuation, number, offset, result, When, rank, Demand1}
+use Rattle.demands.specs.RowOrder.{first-same, Clear, clear-past, clear-all}
+use Rattle.demands.specs.FileReplies.{RefusedBy, FileReply, table-reply, trace-reply}
+
+-- ---- a first row's number and offset are the answer
+
+-- no row holds and the answer is 0 at 0, or the answer is that of the first row
+data First (c : Call) (reply at : ℕ) : Type 0 where
+  no-row : reply ≡ 0 → at ≡ 0 → ((row : Row) → When c row → ⊥) → First c reply at
+  some-row : RefusedBy c reply at → First c reply at
+
+number-positive : (row : Row) → 0 < number row
+number-positive Short = omega arith
+number-positive Version = omega arith
+number-positive Total = omega arith
+number-positive Limits = omega arith
+number-positive (Frame k) = omega arith
+number-positive (Rule k) = omega arith
+number-positive (Expression k) = omega arith
+number-positive Spare = omega arith
+number-positive Bound = omega arith
+number-positive Size = omega arith
+number-positive Room = omega arith
+number-positive Valuation = omega arith
+
+first-demand : (c : Call) (reply at : ℕ) → First c reply at → Demand1 c reply at
+first-demand c reply at (no-row z o none) = record {
+  done = (λ e. none, λ h. z);
+  done-offset = λ e. o;
+  refused = λ k p h. (λ e. absurd (omega (arith, e .0)), λ f. absurd (none (f .0) (f .3 .holds)));
+}
+first-demand c reply at (some-row (row, m, o, f)) = record {
+  done = (λ e. absurd (omega (arith, number-positive row)), λ h. absurd (h row (f .holds)));
+  done-offset = λ e. absurd (omega (arith, number-positive row));
+  refused = λ k p h. (
+    λ e. (row, m ∙ e .0, o ∙ e .1, f),
+    λ g. let same = first-same c row (g .0) f (g .3) in (sym m ∙ ap number (sym same) ∙ g .1, sym o ∙ ap (offset (bytesOf c)) (sym same) ∙ g .2),
+  );
+}
+
+-- a row that holds where none before it does
+at-row : (c : Call) (row : Row) → Clear c (rank (headerCount (bytesOf c)) row) → When c row → First c (number row) (offset (bytesOf c) row)
+at-row c row clear holds = some-row (row, refl, refl, record { holds = holds; none-before = clear })
+
+-- the rows of the calls' own, one after the other
+module _ (c : Call) where
+  abbrev n : ℕ
+  n = headerCount (bytesOf c)
+
+  no-bound : Clear c (5 + 3 * headerCount (bytesOf c)) → (When c Bound → ⊥) → Clear c (6 + 3 * headerCount (bytesOf c))
+  no-bound = clear-past c Bound (6 + 3 * n) tt (omega arith)
+
+  no-size : Clear c (6 + 3 * headerCount (bytesOf c)) → (When c Size → ⊥) → Clear c (7 + 3 * headerCount (bytesOf c))
+  no-size = clear-past c Size (7 + 3 * n) tt (omega arith)
+
+  no-room : Clear c (7 + 3 * headerCount (bytesOf c)) → (When c Room → ⊥) → Clear c (8 + 3 * headerCount (bytesOf c))
+  no-room = clear-past c Room (8 + 3 * n) tt (omega arith)
+
+  no-valuation : Clear c (8 + 3 * headerCount (bytesOf c)) → (When c Valuation → ⊥) → (row : Row) → When c row → ⊥
+  no-valuation clear h = clear-all c (clear-past c Valuation (9 + 3 * n) tt (omega arith) clear h)
+
+-- an accepted file's inputs are its header's
+table-inputs : (t : List ℕ) (S : ℕ) (is : List Instr) → readTable t ≡ Accepted S is → headerInputs t ≡ S
+unfolding readTable
+table-inputs t S is q = file-is 1 1024 instrs t S is q .inputs
+
+trace-inputs : (t : List ℕ) (S : ℕ) (ts : List Stmt) → readTrace t ≡ Accepted S ts → headerInputs t ≡ S
+unfolding readTrace
+trace-inputs t S ts q = file-is 129 4096 stmts t S ts q .inputs
+
+-- ---- running: 8 and 11
+
+module _ (t : List ℕ) (K : ℕ) (v : List ℕ) where
+  run-tested : (S : ℕ) → headerInputs t ≡ S → Clear (Run t K v) (5 + 3 * headerCount t)
+      → (x : Bool) → leb K 255 ≡ x → (y : Bool) → eqb (length v) S ≡ y → (a : Ran) → First (Run t K v)
+      ((cond x (cond y (Running.answerOf a) (Running.refusal 11 0)) (Running.refusal 8 0)) .reply)
+      ((cond x (cond y (Running.answerOf a) (Running.refusal 11 0)) (Running.refusal 8 0)) .offset)
+  run-tested S i clear false e y f a = at-row (Run t K v) Bound clear (leb-false K 255 e)
+  run-tested S i clear true e y f a = go y f
+    where
+      bounded : Clear (Run t K v) (8 + 3 * headerCount t)
+      bounded = no-room (Run t K v) (no-size (Run t K v) (no-bound (Run t K v) clear (λ h. omega (arith, leb-true K 255 e))) (λ h. h)) (λ h. h)
+
+      go : (y : Bool) → eqb (length v) S ≡ y → First (Run t K v)
+          ((cond y (Running.answerOf a) (Running.refusal 11 0)) .reply) ((cond y (Running.answerOf a) (Running.refusal 11 0)) .offset)
+      go false f = at-row (Run t K v) Valuation bounded (λ h. eqb-false (length v) S f (h ∙ i))
+      go true f = no-row refl refl (no-valuation (Run t K v) bounded (λ h. h (eqb-true (length v) S f ∙ sym i)))
+
+  run-first : (i : Input Instr) → readTable t ≡ i → FileReply (Run t K v) i
+      → First (Run t K v) ((Running.answered K v i) .reply) ((Running.answered K v i) .offset)
+  run-first (Refused r at) q f = some-row f
+  run-first (Accepted S is) q clear = run-tested S (table-inputs t S is q) clear (leb K 255) refl (eqb (length v) S) refl (run is K v)
+
+  pub run-demand1 : All Byte t → Demand1 (Run t K v) ((runAnswer t K v) .reply) ((runAnswer t K v) .offset)
+  unfolding runAnswer
+  run-demand1 o =
+      first-demand (Run t K v) ((runAnswer t K v) .reply) ((runAnswer t K v) .offset) (run-first (readTable t) refl (table-reply (Run t K v) refl o))
+
+-- ---- judging: 11
+
+module _ (t v : List ℕ) where
+  judge-tested : (S : ℕ) → headerInputs t ≡ S → Clear (Judge t v) (5 + 3 * headerCount t) → (y : Bool) → eqb (length v) S ≡ y → (a : Outcome)
+      → First (Judge t v) ((cond y (Judging.answerOf a) (Judging.refusal 11 0)) .reply) ((cond y (Judging.answerOf a) (Judging.refusal 11 0)) .offset)
+  judge-tested S i clear y f a = go y f
+    where
+      unbounded : Clear (Judge t v) (8 + 3 * headerCount t)
+      unbounded = no-room (Judge t v) (no-size (Judge t v) (no-bound (Judge t v) clear (λ h. h)) (λ h. h)) (λ h. h)
+
+      go : (y : Bool) → eqb (length v) S ≡ y
+          → First (Judge t v) ((cond y (Judging.answerOf a) (Judging.refusal 11 0)) .reply) ((cond y (Judging.answerOf a) (Judging.refusal 11 0)) .offset)
+      go false f = at-row (Judge t v) Valuation unbounded (λ h. eqb-false (length v) S f (h ∙ i))
+      go true f = no-row refl refl (no-valuation (Judge t v) unbounded (λ h. h (eqb-true (length v) S f ∙ sym i)))
+
+  judge-first : (i : Input Stmt) → readTrace t ≡ i → FileReply (Judge t v) i
+      → First (Judge t v) ((Judging.answered v i) .reply) ((Judging.answered v i) .offset)
+  judge-first (Refused r at) q f = some-row f
+  judge-first (Accepted S ts) q clear = judge-tested S (trace-inputs t S ts q) clear (eqb (length v) S) refl (judge ts (envOf v))
+
+  pub judge-demand1 : All Byte t → Demand1 (Judge t v) ((judgeAnswer t v) .reply) ((judgeAnswer t v) .offset)
+  unfolding judgeAnswer
+  judge-demand1 o =
+      first-demand (Judge t v) ((judgeAnswer t v) .reply) ((judgeAnswer t v) .offset) (judge-first (readTrace t) refl (trace-reply (Judge t v) refl o))
+
+-- ---- writing a trace: 8, 9 and 10
+
+module _ (t : List ℕ) (K room : ℕ) where
+  abbrev writing : Call
+  writing = WriteTrace t K room
+
+  -- the trace's statements
+  abbrev unwound : List Stmt
+  unwound = unwind Assume (headerInputs t) (listed (readTable t)) K
+
+  -- a trace of these statements and bytes, by the tests for 8, 9 and 10
+  abbrev traced : (bytes : List ℕ) (x y z : Bool) → Tracing.Traced
+  traced bytes x y z =
+      cond x (cond y (cond z (record { reply = 0; offset = 0; bytes = bytes }) (Tracing.refusal 10 0)) (Tracing.refusal 9 0)) (Tracing.refusal 8 0)
+
+  trace-tested : (count : ℕ) (bytes : List ℕ) → length unwound ≡ count → result writing ≡ bytes → Clear writing (5 + 3 * headerCount t)
+      → (x : Bool) → leb K 255 ≡ x → (y : Bool) → (leb count 4096 && leb (length bytes) 65535) ≡ y → (z : Bool) → leb (length bytes) room ≡ z
+      → First writing ((traced bytes x y z) .reply) ((traced bytes x y z) .offset)
+  trace-tested count bytes i j clear false e y f z g = at-row writing Bound clear (leb-false K 255 e)
+  trace-tested count bytes i j clear true e y f z g = go y f z g
+    where
+      total : length (result writing) ≡ length bytes
+      total = ap length j
+
+      bounded : Clear writing (6 + 3 * headerCount t)
+      bounded = no-bound writing clear (λ h. omega (arith, leb-true K 255 e))
+
+      long : (leb count 4096 && leb (length bytes) 65535) ≡ false → When writing Size
+      long f h =
+          let few = le-leb count 4096 (omega (arith, h .0)) in
+          let short = le-leb (length bytes) 65535 (omega (arith, h .1, total)) in
+          let q = sym f ∙ both-and (leb count 4096) (leb (length bytes) 65535) few short in
+          let z : _≡_ {A = ℕ} 0 1 = cc in omega arith
+
+      sized : (leb count 4096 && leb (length bytes) 65535) ≡ true → Clear writing (7 + 3 * headerCount t)
+      sized f =
+          let k = and-both (leb count 4096) (leb (length bytes) 65535) f in
+          no-size writing bounded (λ h. h (omega (arith, leb-true count 4096 (k .0)), omega (arith, leb-true (length bytes) 65535 (k .1), total)))
+
+      go : (y : Bool) → (leb count 4096 && leb (length bytes) 65535) ≡ y → (z : Bool) → leb (length bytes) room ≡ z
+          → First writing ((traced bytes true y z) .reply) ((traced bytes true y z) .offset)
+      go false f z g = at-row writing Size bounded (long f)
+      go true f false g = at-row writing Room (sized f) (omega (arith, leb-false (length bytes) room g, total))
+      go true f true g = no-row refl refl (no-valuation writing (no-room writing (sized f) (λ h. omega (arith, leb-true (length bytes) room g, total))) (λ h. h))
+
+  trace-first : (i : Input Instr) → readTable t ≡ i → FileReply (WriteTrace t K room) i
+      → First (WriteTrace t K room) ((Tracing.answered K room i) .reply) ((Tracing.answered K room i) .offset)
+  trace-first (Refused r at) q f = some-row f
+  trace-first (Accepted S is) q clear =
+      let inputs = table-inputs t S is q in
+      let ts = unwind Assume S is K in
+      let same : unwound ≡ unwind Assume S is K = ap₂ (λ S is. unwind Assume S is K) inputs (ap listed q) in
+      trace-tested (length ts) (encodeTrace S ts) (ap length same) (ap₂ encodeTrace inputs same) clear (leb K 255) refl
+      (leb (length ts) 4096 && leb (length (encodeTrace S ts)) 65535) refl (leb (length (encodeTrace S ts)) room) refl
+
+  pub write-trace-demand1 : All Byte t → Demand1 (WriteTrace t K room) ((traceAnswer t K room) .reply) ((traceAnswer t K room) .offset)
+  unfolding traceAnswer
+  write-trace-demand1 o =
+      first-demand writing ((traceAnswer t K room) .reply) ((traceAnswer t K room) .offset) (trace-first (readTable t) refl (table-reply writing refl o))
+
+-- ---- slicing: 10
+
+module _ (t : List ℕ) (room : ℕ) where
+  abbrev slicing : Call
+  slicing = SliceTrace t room
+
+  slice-tested : (S : ℕ) (kept : List Stmt) → result slicing ≡ encodeTrace S kept → Clear slicing (5 + 3 * headerCount t)
+      → (y : Bool) → leb (length (encodeTrace S kept)) room ≡ y
+      → First slicing ((cond y (Slicing.sliceOf S kept) (Slicing.refusal 10 0)) .reply) ((cond y (Slicing.sliceOf S kept) (Slicing.refusal 10 0)) .offset)
+  slice-tested S kept i clear y f = go y f
+    where
+      total : length (result slicing) ≡ length (encodeTrace S kept)
+      total = ap length i
+
+      unsized : Clear slicing (7 + 3 * headerCount t)
+      unsized = no-size slicing (no-bound slicing clear (λ h. h)) (λ h. h)
+
+      go : (y : Bool) → leb (length (encodeTrace S kept)) room ≡ y
+          → First slicing ((cond y (Slicing.sliceOf S kept) (Slicing.refusal 10 0)) .reply) ((cond y (Slicing.sliceOf S kept) (Slicing.refusal 10 0)) .offset)
+      go false f = at-row slicing Room unsized (omega (arith, leb-false (length (encodeTrace S kept)) room f, total))
+      go true f = no-row refl refl (no-valuation slicing (no-room slicing unsized (λ h. omega (arith, leb-true (length (encodeTrace S kept)) room f, total))) (λ h. h))
+
+  slice-first : (i : Input Stmt) → readTrace t ≡ i → FileReply (SliceTrace t room) i
+      → First (SliceTrace t room) ((Slicing.answered room i) .reply) ((Slicing.answered room i) .offset)
+  slice-first (Refused r at) q f = some-row f
+  slice-first (Accepted S ts) q clear =
+      slice-tested S (slice ts) (ap₂ (λ S ts. encodeTrace S (slice ts)) (trace-inputs t S ts q) (ap listed q)) clear (leb (length (encodeTrace S (slice ts))) room) refl
+
+  pub slice-trace-demand1 : All Byte t → Demand1 (SliceTrace t room) ((sliceAnswer t room) .reply) ((sliceAnswer t room) .offset)
+  unfolding sliceAnswer
+  slice-trace-demand1 o =
+      first-demand slicing ((sliceAnswer t room) .reply) ((sliceAnswer t room) .offset) (slice-first (readTrace t) refl (trace-reply slicing refl o))
