@@ -1,0 +1,36 @@
+-- Document 01's printed slice of the small rule, letter by letter, and refusals: computed.
+use Prim.Native.Nat.{ℕ}
+use mathlib.Core.Path.{_≡_, refl}
+use mathlib.Core.List.{List, [], _∷_}
+use lib.Count.{ones}
+use Rattle.expr.specs.Token.{operator, readToken}
+use Rattle.expr.specs.Expr.{fits, parseFrom}
+use Rattle.file.specs.File.{headerReply, frame, recordOf, records, readFile, encode}
+use Rattle.table.specs.Table.{instr, readTable}
+use Rattle.table.specs.Cases.{smallRule}
+use Rattle.trace.specs.Trace.{stmt, readTrace}
+use Rattle.unwind.specs.Places.{places}
+use Rattle.unwind.specs.Unwind.{unwind}
+use Rattle.unwind.specs.Answer.{traceAnswer}
+use Rattle.slice.specs.Slice.{slice}
+use Rattle.slice.specs.Answer.{sliceAnswer}
+use Rattle.show.specs.Ascii.{ascii}
+use Rattle.show.specs.Text.{decimal, printed}
+
+-- the whole output for K = 0 and the small rule
+pub small : printed (0 ∷ smallRule) ≡ ascii "inputs 1 statements 4\n65535 assign s1 0\n0 assign s2 s1 0 ule s0 zero 3 s1 ite s1 ite\n2 assume s2 2 ule 1 zero 1 ite\n3 assert s2 3 ule 0 1 ite\n"
+unfolding printed decimal traceAnswer sliceAnswer readTable readFile headerReply records recordOf frame instr parseFrom readToken operator fits unwind places encode
+    readTrace stmt slice
+small = refl
+
+-- no K; no table; a wrong version; a table whose length is not the field's; spare bytes
+refusals : (printed [] ≡ ascii "refused 1 at 0\n") × (printed (0 ∷ []) ≡ ascii "refused 1 at 0\n")
+    × (printed (0 ∷ 2 ∷ 0 ∷ 6 ∷ 0 ∷ 0 ∷ 0 ∷ []) ≡ ascii "refused 2 at 0\n") × (printed (255 ∷ 1 ∷ 0 ∷ 7 ∷ 0 ∷ 0 ∷ 0 ∷ []) ≡ ascii "refused 3 at 0\n")
+    × (printed (0 ∷ 1 ∷ 0 ∷ 7 ∷ 0 ∷ 0 ∷ 0 ∷ 9 ∷ []) ≡ ascii "refused 5 at 6\n")
+unfolding printed decimal traceAnswer readTable readFile headerReply records
+refusals = (refl, refl, refl, refl, refl)
+
+-- the largest constant
+largest : decimal 4294967295 ≡ ascii "4294967295"
+unfolding decimal
+largest = refl
