@@ -12,6 +12,8 @@ pub trait Case: Clone + Display {
     fn model(&self) -> Self::Answer;
     fn archive(&self) -> Self::Answer;
 
+    fn reply(answer: &Self::Answer) -> u32;
+
     /// The table or the trace.
     fn file_mut(&mut self) -> &mut Vec<u8>;
 
@@ -45,6 +47,10 @@ impl Case for RunCase {
 
     fn archive(&self) -> RunAnswer {
         archive::run(&self.table, self.bound, &self.valuation)
+    }
+
+    fn reply(answer: &RunAnswer) -> u32 {
+        answer.reply
     }
 
     fn file_mut(&mut self) -> &mut Vec<u8> {
@@ -87,6 +93,10 @@ impl Case for JudgeCase {
         archive::judge(&self.trace, &self.valuation)
     }
 
+    fn reply(answer: &JudgeAnswer) -> u32 {
+        answer.reply
+    }
+
     fn file_mut(&mut self) -> &mut Vec<u8> {
         &mut self.trace
     }
@@ -125,6 +135,10 @@ impl Case for TraceCase {
         let mut outs = lend(self.room);
         let answer = archive::trace(&self.table, self.bound, &mut outs);
         Written::new(answer, outs)
+    }
+
+    fn reply(written: &Written<TraceAnswer>) -> u32 {
+        written.answer.reply
     }
 
     fn file_mut(&mut self) -> &mut Vec<u8> {
@@ -168,6 +182,10 @@ impl Case for SliceCase {
         let mut outs = lend(self.room);
         let answer = archive::slice(&self.trace, &mut outs);
         Written::new(answer, outs)
+    }
+
+    fn reply(written: &Written<SliceAnswer>) -> u32 {
+        written.answer.reply
     }
 
     fn file_mut(&mut self) -> &mut Vec<u8> {

@@ -36,7 +36,7 @@ pub fn hold_features<C: Case>(
     }
 }
 
-pub fn hold_archive_to_model<C: Case>(count: u64, generate: fn(u64) -> C) {
+pub fn hold_archive_to_model<C: Case>(count: u64, generate: impl FnMut(u64) -> C) {
     let differs = |case: &C| case.archive() != case.model();
     if let Some((seed, small)) = first_failure(count, generate, differs) {
         panic!(
@@ -48,23 +48,31 @@ pub fn hold_archive_to_model<C: Case>(count: u64, generate: fn(u64) -> C) {
 }
 
 /// Asks a property of every generated case.
-pub fn hold_property<C: Case>(count: u64, generate: fn(u64) -> C, holds: fn(&C) -> bool) {
+pub fn hold_property<C: Case>(count: u64, generate: impl FnMut(u64) -> C, holds: fn(&C) -> bool) {
     if let Some((seed, small)) = first_failure(count, generate, |case| !holds(case)) {
         panic!("seed {seed} gives a case without the property; made smaller:\n{small}");
     }
 }
 
-fn first_failure<C: Case>(count: u64, generate: fn(u64) -> C, fails: impl Fn(&C) -> bool) -> Option<(u64, C)> {
+fn first_failure<C: Case>(
+    count: u64,
+    mut generate: impl FnMut(u64) -> C,
+    fails: impl Fn(&C) -> bool,
+) -> Option<(u64, C)> {
     let (seed, case) = seeds(count).map(|seed| (seed, generate(seed))).find(|(_, case)| fails(case))?;
     Some((seed, shrink(case, fails)))
 }
 
 fn seeds(count: u64) -> impl Iterator<Item = u64> {
-    let first = number("SEED", 1);
+    let first = first_seed();
     (0..case_count(count)).map(move |i| first.wrapping_add(i))
 }
 
-fn case_count(default: u64) -> u64 {
+pub fn first_seed() -> u64 {
+    number("SEED", 1)
+}
+
+pub fn case_count(default: u64) -> u64 {
     number("CASES", default)
 }
 

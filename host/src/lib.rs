@@ -1,5 +1,6 @@
 //! Holds libkadvitul.a to a model written from document 01 alone, which shares nothing with the library.
 
+pub mod agreement;
 pub mod archive;
 pub mod case;
 pub mod cases;

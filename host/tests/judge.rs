@@ -13,7 +13,7 @@ const ASSUME: u8 = 2;
 const ASSERT: u8 = 3;
 
 /// How many cases are generated for a test.
-const CASES: u64 = 50_000;
+const CASES: u64 = 100_000;
 
 /// What generated cases have to show, one in so many.
 const DUE: [(&str, u64); 20] = [

@@ -7,7 +7,7 @@ use host::hold::{hold_archive_to_model, hold_features, hold_known};
 use host::model::RunAnswer;
 
 /// How many cases are generated for a test.
-const CASES: u64 = 50_000;
+const CASES: u64 = 100_000;
 
 /// What generated cases have to show, one in so many.
 const DUE: [(&str, u64); 21] = [

@@ -1,5 +1,6 @@
 //! Slicing a trace: document 01's cases, the archive against the model on generated ones, and what slices are for.
 
+use host::agreement::{archive_mask, archive_slice, unread_changed};
 use host::archive;
 use host::case::{Case, JudgeCase, SliceCase};
 use host::cases::{slicing as cases, traces};
@@ -15,7 +16,7 @@ const ASSUME: u8 = 2;
 const ASSERT: u8 = 3;
 
 /// How many cases are generated for a test.
-const CASES: u64 = 15_000;
+const CASES: u64 = 40_000;
 
 /// What generated cases have to show, one in so many.
 const DUE: [(&str, u64); 31] = [
@@ -149,10 +150,8 @@ fn a_trace_and_its_slice_are_judged_alike() {
 #[test]
 fn inputs_that_a_slice_does_not_read_change_neither_verdict_nor_place() {
     hold_property(CASES, generate::sliced_judge_case, |case| {
-        let mask = archive_mask(&case.trace);
-        let changes: [fn(u32) -> u32; 3] = [|word| !word, |word| word ^ 1, |_| 0];
         let judged = case.archive();
-        changes.iter().all(|change| change_unread(case, mask, *change).archive() == judged)
+        unread_changed(case, archive_mask(&case.trace)).iter().all(|changed| changed.archive() == judged)
     });
 }
 
@@ -162,27 +161,6 @@ fn slicing_a_slice_changes_nothing() {
         let slice = archive_slice(&case.trace);
         archive_slice(&slice) == slice && archive_mask(&slice) == archive_mask(&case.trace)
     });
-}
-
-/// Empty where there is none.
-fn archive_slice(trace: &[u8]) -> Vec<u8> {
-    whole(|out| archive::slice_length(trace, out))
-}
-
-fn archive_mask(trace: &[u8]) -> u64 {
-    archive::slice_mask(trace, &mut vec![0; trace.len()])
-}
-
-/// The case with other words for the inputs outside the mask.
-fn change_unread(case: &JudgeCase, mask: u64, change: fn(u32) -> u32) -> JudgeCase {
-    let mut changed = case.clone();
-    for (s, bytes) in changed.valuation.chunks_exact_mut(4).enumerate().take(64) {
-        if mask >> s & 1 == 0 {
-            let word = u32::from_be_bytes([bytes[0], bytes[1], bytes[2], bytes[3]]);
-            bytes.copy_from_slice(&change(word).to_be_bytes());
-        }
-    }
-    changed
 }
 
 /// What a case shows, in the words of `DUE`.

@@ -1,6 +1,6 @@
 //! Writing a trace: document 01's cases, the archive against the model on generated ones, and against its own running.
 
-use host::archive;
+use host::agreement::{self, archive_trace};
 use host::case::{Case, RunCase, TraceCase};
 use host::cases::{running, unwinding as cases};
 use host::generate;
@@ -9,7 +9,7 @@ use host::model::{self, RunAnswer, TraceAnswer};
 use host::written::{fit, whole, Written, LENGTH_LIMIT};
 
 /// How many cases are generated for a test.
-const CASES: u64 = 40_000;
+const CASES: u64 = 80_000;
 
 /// What generated cases have to show, one in so many.
 const DUE: [(&str, u64); 26] = [
@@ -142,21 +142,8 @@ fn the_generated_runs_with_a_trace_reach_both_verdicts_and_later_copies() {
 }
 
 #[test]
-fn running_a_table_and_judging_its_trace_give_one_verdict_and_place() {
-    hold_property(CASES, generate::run_case, |case| {
-        let trace = archive_trace(&case.table, case.bound);
-        if trace.is_empty() {
-            return true;
-        }
-        let run = case.archive();
-        let judged = archive::judge(&trace, &case.valuation);
-        (run.reply, run.verdict, run.place) == (judged.reply, judged.verdict, judged.place)
-    });
-}
-
-/// Empty where there is none.
-fn archive_trace(table: &[u8], bound: u64) -> Vec<u8> {
-    whole(|out| archive::trace_length(table, bound, out))
+fn running_a_table_judging_its_trace_and_judging_the_slice_give_one_verdict_and_place() {
+    hold_property(CASES, generate::run_case, agreement::is_met);
 }
 
 /// Empty where there is none.

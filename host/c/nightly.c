@@ -1,0 +1,167 @@
+/* The store's nightly merge job, over libkadvitul.a.
+ *
+ *   nightly rule BOUND FILE VALUATIONS     runs the rule of FILE under a bound on its back jumps, then slices its trace
+ *   nightly trace FILE VALUATIONS          judges the trace of FILE
+ *
+ * VALUATIONS has one valuation after the other, 4 bytes big-endian for each input; FILE's byte 3 says how many inputs there are. A file
+ * without valuations, or with a part of one at its end, is handed over as it is, and refused by its length where there are inputs.
+ *
+ * Exit status: 0 all safe; 1 wrong usage; 2 a call refused, whatever the others said; 3 a file cannot be read or the output not be written;
+ * 4 some unsafe. */
+#include <errno.h>
+#include <inttypes.h>
+#include <stdio.h>
+#include <stdlib.h>
+#include <string.h>
+
+#include "kadvitul.h"
+
+enum { ALL_SAFE = 0, USAGE = 1, REFUSED = 2, UNREADABLE = 3, SOME_UNSAFE = 4 };
+
+enum { TRACE_LIMIT = 65535, FIRST_ROOM = 4096 };
+
+/* A NULL pointer where the length is 0. */
+struct bytes {
+    uint8_t *at;
+    size_t len;
+};
+
+/* Doubles the room until the file ends, then gives back what it does not fill. Without memory a file is unreadable. */
+static int read_stream(FILE *stream, struct bytes *file) {
+    size_t room = 0;
+    while (file->len == room) {
+        room = room == 0 ? FIRST_ROOM : 2 * room;
+        uint8_t *at = realloc(file->at, room);
+        if (at == NULL) return UNREADABLE;
+        file->at = at;
+        file->len += fread(at + file->len, 1, room - file->len, stream);
+        if (ferror(stream)) return UNREADABLE;
+    }
+    if (file->len == 0) {
+        free(file->at);
+        file->at = NULL;
+        return ALL_SAFE;
+    }
+    uint8_t *exact = realloc(file->at, file->len);
+    if (exact != NULL) file->at = exact;
+    return ALL_SAFE;
+}
+
+static int read_file(const char *path, struct bytes *file) {
+    FILE *stream = fopen(path, "rb");
+    int status = stream == NULL ? UNREADABLE : read_stream(stream, file);
+    if (stream != NULL && fclose(stream) != 0) status = UNREADABLE;
+    if (status != ALL_SAFE) fprintf(stderr, "nightly: %s cannot be read\n", path);
+    return status;
+}
+
+static const char *meaning(uint32_t reply) {
+    switch (reply) {
+    case 1: return "the file has fewer than 6 bytes";
+    case 2: return "the version byte is wrong: not this kind of file";
+    case 3: return "the length field is not the file's length";
+    case 4: return "more inputs or records than allowed";
+    case 5: return "a record is cut short or of unknown kind, or bytes follow the last record";
+    case 6: return "a jump's target or an assigned symbol is against its rule";
+    case 7: return "an expression is against its rules";
+    case 8: return "the bound is above 255";
+    case 9: return "the trace has over 4,096 statements or 65,535 bytes";
+    case 10: return "the buffer is shorter than the result";
+    case 11: return "the valuation has not 4 bytes for each input";
+    default: return "a number that kadvitul.h does not list";
+    }
+}
+
+static int refused(const char *what, uint32_t reply, uint32_t offset) {
+    printf("%s refused %" PRIu32 " at %" PRIu32 ": %s\n", what, reply, offset, meaning(reply));
+    return REFUSED;
+}
+
+static int run(const struct bytes *f, uint64_t bound, const uint8_t *valuation, size_t len) {
+    uint32_t reply = kadvitul_run_reply(f->at, f->len, bound, valuation, len);
+    if (reply != 0) return refused("run", reply, kadvitul_run_offset(f->at, f->len, bound, valuation, len));
+    uint32_t back_jumps = kadvitul_run_back_jumps(f->at, f->len, bound, valuation, len);
+    if (kadvitul_run_verdict(f->at, f->len, bound, valuation, len) == 0) {
+        printf("safe, back jumps %" PRIu32 ": merge\n", back_jumps);
+        return ALL_SAFE;
+    }
+    uint32_t place = kadvitul_run_place(f->at, f->len, bound, valuation, len);
+    printf("unsafe at %" PRIu32 ", back jumps %" PRIu32 ": hold the merge\n", place, back_jumps);
+    return SOME_UNSAFE;
+}
+
+static int judge(const struct bytes *f, const uint8_t *valuation, size_t len) {
+    uint32_t reply = kadvitul_judge_reply(f->at, f->len, valuation, len);
+    if (reply != 0) return refused("judging", reply, kadvitul_judge_offset(f->at, f->len, valuation, len));
+    if (kadvitul_judge_verdict(f->at, f->len, valuation, len) == 0) {
+        printf("safe: merge\n");
+        return ALL_SAFE;
+    }
+    printf("unsafe at %" PRIu32 ": hold the merge\n", kadvitul_judge_place(f->at, f->len, valuation, len));
+    return SOME_UNSAFE;
+}
+
+/* A refusal ends the job. The bound is NULL for a trace. */
+static int decide(const struct bytes *file, const uint64_t *bound, const struct bytes *valuations) {
+    size_t step = file->len > 3 ? 4 * (size_t)file->at[3] : 0;
+    size_t start = 0, number = 0;
+    int status = ALL_SAFE;
+    do {
+        size_t rest = valuations->len - start;
+        size_t len = step > 0 && step < rest ? step : rest;
+        const uint8_t *valuation = len == 0 ? NULL : valuations->at + start;
+        printf("valuation %zu: ", number);
+        int one = bound == NULL ? judge(file, valuation, len) : run(file, *bound, valuation, len);
+        if (one == REFUSED) return REFUSED;
+        if (one == SOME_UNSAFE) status = SOME_UNSAFE;
+        start += len;
+        number++;
+    } while (start < valuations->len);
+    return status;
+}
+
+/* A slice is never longer than its trace. */
+static int slice(const uint8_t *trace, uint32_t len, uint8_t *out) {
+    uint32_t reply = kadvitul_slice_reply(trace, len, out, len);
+    if (reply != 0) return refused("slice", reply, kadvitul_slice_offset(trace, len, out, len));
+    printf("slice: %" PRIu32 " of the trace's %" PRIu32 " bytes, reads %" PRIu32 " of %d inputs, mask %" PRIx64 "\n",
+           kadvitul_slice_length(trace, len, out, len), len, kadvitul_slice_inputs(trace, len, out, len), trace[3],
+           kadvitul_slice_mask(trace, len, out, len));
+    return ALL_SAFE;
+}
+
+static int trace_and_slice(const struct bytes *f, uint64_t bound) {
+    uint8_t trace[TRACE_LIMIT], out[TRACE_LIMIT];
+    uint32_t reply = kadvitul_trace_reply(f->at, f->len, bound, trace, sizeof trace);
+    if (reply != 0) return refused("trace", reply, kadvitul_trace_offset(f->at, f->len, bound, trace, sizeof trace));
+    return slice(trace, kadvitul_trace_length(f->at, f->len, bound, trace, sizeof trace), out);
+}
+
+static int job(const uint64_t *bound, const char *path, const char *valuations_path) {
+    struct bytes file = {NULL, 0}, valuations = {NULL, 0};
+    int status = read_file(path, &file);
+    if (status == ALL_SAFE) status = read_file(valuations_path, &valuations);
+    if (status == ALL_SAFE) status = decide(&file, bound, &valuations);
+    int is_decided = status == ALL_SAFE || status == SOME_UNSAFE;
+    if (is_decided && bound != NULL && trace_and_slice(&file, *bound) == REFUSED) status = REFUSED;
+    free(file.at);
+    free(valuations.at);
+    if (fflush(stdout) != 0 || ferror(stdout)) status = UNREADABLE;
+    return status;
+}
+
+/* Digits alone, of a number below 2^64. */
+static int read_bound(const char *text, uint64_t *bound) {
+    char *end = NULL;
+    errno = 0;
+    *bound = strtoull(text, &end, 10);
+    return errno == 0 && text[0] >= '0' && text[0] <= '9' && *end == '\0';
+}
+
+int main(int argc, char **argv) {
+    uint64_t bound = 0;
+    if (argc == 5 && strcmp(argv[1], "rule") == 0 && read_bound(argv[2], &bound)) return job(&bound, argv[3], argv[4]);
+    if (argc == 4 && strcmp(argv[1], "trace") == 0) return job(NULL, argv[2], argv[3]);
+    fprintf(stderr, "usage: nightly rule BOUND FILE VALUATIONS | nightly trace FILE VALUATIONS\n");
+    return USAGE;
+}
