@@ -2,3 +2,5 @@
 pub mod Ascii
 pub mod Text
 pub mod Cases
+-- What the code's values mean in these terms.
+pub mod Shown

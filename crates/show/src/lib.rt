@@ -1,1 +1,2 @@
-// The text of a slice: so far what it is, in `specs/`; the code comes next.
+// The text of a slice, as the slice printer gives it: so far its words; the lines come next.
+mod word;

@@ -1,0 +1,30 @@
+-- What the code's values mean: its answers as functions of the definitions.
+use Prim.Native.Nat.{ℕ, zero, suc, _/_}
+use mathlib.Core.Bool.{cond}
+use mathlib.Core.Option.{Option, none, some}
+use mathlib.Core.List.{List, [], _++_}
+use lib.Dec.{ltb}
+use Rattle.expr.specs.Token.{Token, operator}
+use Rattle.show.specs.Ascii.{ascii}
+use Rattle.show.specs.Text.{tokenText}
+
+-- the digits of a number, at most k
+abbrev pub placesUpTo : (k n : ℕ) → ℕ
+placesUpTo zero n = 0
+placesUpTo (suc k) n = cond (ltb n 10) 1 (suc (placesUpTo k (n / 10)))
+
+abbrev pub places : ℕ → ℕ
+places n = placesUpTo 10 n
+
+-- the text of a token that is read, after a space
+abbrev pub readText : Option Token → List ℕ
+readText none = []
+readText (some t) = ascii " " ++ tokenText t
+
+abbrev pub textOf : Option Token → List ℕ
+textOf none = []
+textOf (some t) = tokenText t
+
+-- an operator's name by its code
+unfoldable pub nameOf : (code : ℕ) → List ℕ
+nameOf b = textOf (operator b)
