@@ -1,3 +1,4 @@
 pub mod Decimal
 pub mod Names
 pub mod Exprs
+pub mod Lines

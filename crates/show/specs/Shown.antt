@@ -5,8 +5,10 @@ use mathlib.Core.Option.{Option, none, some}
 use mathlib.Core.List.{List, [], _++_}
 use lib.Dec.{ltb}
 use Rattle.expr.specs.Token.{Token, operator}
+use Rattle.file.specs.File.{Body, Good, Bad}
+use Rattle.trace.specs.Trace.{Stmt}
 use Rattle.show.specs.Ascii.{ascii}
-use Rattle.show.specs.Text.{tokenText}
+use Rattle.show.specs.Text.{decimal, tokenText, stmtLine}
 
 -- the digits of a number, at most k
 abbrev pub placesUpTo : (k n : ℕ) → ℕ
@@ -28,3 +30,11 @@ textOf (some t) = tokenText t
 -- an operator's name by its code
 unfoldable pub nameOf : (code : ℕ) → List ℕ
 nameOf b = textOf (operator b)
+
+-- the line of a statement that a record holds
+abbrev pub lineIn : Body Stmt → List ℕ
+lineIn (Good t) = stmtLine t
+lineIn (Bad r) = []
+
+abbrev pub firstLine : (S n : ℕ) → List ℕ
+firstLine S n = ascii "inputs " ++ decimal S ++ ascii " statements " ++ decimal n ++ ascii "\n"

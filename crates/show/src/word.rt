@@ -46,7 +46,7 @@ pub fn put_decimal(v: u32, out: &mut [u8], at: usize) -> usize
 // The refusal's line, from the buffer's first byte.
 pub fn put_refusal(reply: u32, offset: u32, out: &mut [u8]) -> usize
     requires { ⌜ 33 ≤ length (now out) ⌝ }
-    ensures { λ r. ⌜ Wrote (now (out .entry)) 0 (refusalText reply offset) (now (out .exit)) r ⌝ }
+    ensures { λ r. ⌜ Wrote (now (out .entry)) 0 (refusalText reply offset) (now (out .exit)) r × (r ≤ 33) ⌝ }
 {
     let a = write::put_part(b"refused ", out, 0);
     let b = put_decimal(reply, out, a);
@@ -58,7 +58,7 @@ pub fn put_refusal(reply: u32, offset: u32, out: &mut [u8]) -> usize
 // A test's kind, after a space.
 pub fn put_kind(kind: u8, out: &mut [u8], at: usize) -> usize
     requires { ⌜ at + 7 ≤ length (now out) ⌝ }
-    ensures { λ r. ⌜ Wrote (now (out .entry)) at (ascii " " ++ ascii (kindName (kindOf kind))) (now (out .exit)) r ⌝ }
+    ensures { λ r. ⌜ Wrote (now (out .entry)) at (ascii " " ++ ascii (kindName (kindOf kind))) (now (out .exit)) r × (r ≤ at + 7) ⌝ }
 {
     if kind == 3 {
         return write::put_part(b" assert", out, at);

@@ -172,7 +172,7 @@ assigned-below top σ bs p y e g =
 -- ---- where a statement stands
 
 -- what a statement allows to those after it is within what every accepted statement keeps to
-wider-after : (top : ℕ) (σ : Seen) → Wider top σ 4160 loose → (bs : List ℕ) (x : Stmt) → recordOf (stmt top σ) bs ≡ Good x → Wider top (see σ x) 4160 loose
+pub wider-after : (top : ℕ) (σ : Seen) → Wider top σ 4160 loose → (bs : List ℕ) (x : Stmt) → recordOf (stmt top σ) bs ≡ Good x → Wider top (see σ x) 4160 loose
 wider-after top σ w bs (Assign p x e) g = record {
   higher = w .higher;
   lower = omega arith;

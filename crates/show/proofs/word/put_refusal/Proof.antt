@@ -1,6 +1,7 @@
 use borrow.Author.Needs.{needs}
 use Rattle.show.proofs.word.put_refusal.Statement.{statement}
 use Rattle.show.proofs.word.put_refusal.Tie as tie
+use native.Mathlib.Omega.{arith}
 use Rattle.write.specs.SpliceLaws.{_then_}
 
 slice-aggregate-put-part : tie.Need-slice-aggregate-put-part
@@ -31,7 +32,7 @@ same-length : tie.Need-same-length
 same-length c = search needs
 
 returns : tie.Need-returns
-returns c = (((c .before .before .before .before .before .before .before .before .before .before .before .before .before .before .before .before .before .before .before .before .put-part .ensures then c .before .before .before .before .before .before .before .before .before .before .before .before .before .before .before .before .put-decimal .ensures .0) then c .before .before .before .before .before .before .before .before .before .before .before .put-part2 .ensures) then c .before .before .before .before .before .before .before .put-decimal2 .ensures .0) then c .before .before .put-part3 .ensures
+returns c = ((((c .before .before .before .before .before .before .before .before .before .before .before .before .before .before .before .before .before .before .before .before .put-part .ensures then c .before .before .before .before .before .before .before .before .before .before .before .before .before .before .before .before .put-decimal .ensures .0) then c .before .before .before .before .before .before .before .before .before .before .before .put-part2 .ensures) then c .before .before .before .before .before .before .before .put-decimal2 .ensures .0) then c .before .before .put-part3 .ensures, omega (arith, c .before .before .before .before .before .before .before .before .before .before .before .before .before .before .before .before .before .before .before .before .put-part .ensures .next, c .before .before .before .before .before .before .before .before .before .before .before .before .before .before .before .before .put-decimal .ensures .1, c .before .before .before .before .before .before .before .before .before .before .before .put-part2 .ensures .next, c .before .before .before .before .before .before .before .put-decimal2 .ensures .1, c .before .before .put-part3 .ensures .next))
 
 pub put-refusal-spec : {M : Type 1} → statement M
 put-refusal-spec =

@@ -1,0 +1,201 @@
+-- The line of the record at an offset, by its kind, and the loop over the records: what is written and the lines of the statements that are left make all
+-- the lines. No line has more letters than six for each of its record's bytes.
+use Prim.Native.Nat.{ℕ, suc, _+_, _-_, _*_, _≤_, _<_}
+use native.Mathlib.Omega.{arith}
+use mathlib.Core.Path.{_≡_, refl, sym, ap, _∙_, subst}
+use mathlib.Core.Bool.{Bool, true, false, cond}
+use mathlib.Core.List.{List, [], _∷_, _++_}
+use lib.ListN.{length, take, drop, getD, length-drop}
+use lib.Seq.{length-take-le, append-snoc}
+use lib.Dec.{eqb}
+use borrow.Author.Tests.{eq-eqb, ne-eqb, lt-ltb, ltb-true}
+use Rattle.expr.specs.declared.File.the-variants.{Trace}
+use Rattle.expr.specs.Lists.{All}
+use Rattle.expr.specs.Number.{Byte, numberOf}
+use Rattle.expr.specs.Expr.{below, parse}
+use Rattle.expr.specs.Shown.{isWhole, tokensOf}
+use Rattle.file.specs.File.{headerInputs, headerCount, Good, frame, Read, Input, Accepted, Refused}
+use Rattle.file.specs.Shown.{isGood, isAccepted, listed, kindOf}
+use Rattle.file.specs.FileLaws.{header-is, file-is, framed, record-good, Next, next-record, records-chain}
+use Rattle.file.specs.ReadingLaws.{short}
+use Rattle.trace.specs.Trace.{Stmt, Seen, atFirst, see, stmt, stmtsFrom, stmts, readTrace}
+use Rattle.trace.specs.TraceLaws.{Wider, record-wider, wider-after}
+use Rattle.trace.specs.Shown.{loose, held, exprStart, exprOf}
+use Rattle.trace.proofs.Held.{Held, held-at}
+use Rattle.trace.proofs.Moves.{expr-part}
+use Rattle.write.specs.Splice.{Wrote}
+use Rattle.write.specs.SpliceLaws.{Ahead, ahead-start, ahead-step, ahead-end, ahead-length}
+use Rattle.show.specs.Ascii.{ascii}
+use Rattle.show.specs.Text.{decimal, kindName, exprText, stmtLines, traceText}
+use Rattle.show.specs.Shown.{lineIn, firstLine}
+
+-- ---- one record
+
+pub part-length : (s : List ℕ) (a e : ℕ) → a ≤ e → e ≤ length s → length (take (e - a) (drop a s)) ≡ e - a
+part-length s a e h l = length-take-le (e - a) (drop a s) (omega (arith, length-drop a s))
+
+module _ {s : List ℕ} {at : ℕ} (h : Held 4160 loose s at) where
+  pub five-bytes : 5 ≤ 2 + numberOf 2 (drop at s)
+  five-bytes = go (eqb (getD s (at + 2) 0) 1) (h .starts)
+    where
+      go : (x : Bool) → at + cond x 7 5 ≤ at + 2 + numberOf 2 (drop at s) → 5 ≤ 2 + numberOf 2 (drop at s)
+      go true l = omega arith
+      go false l = omega arith
+
+  module _ (k : getD s (at + 2) 0 ≡ 1) where
+    assign-start : exprStart (getD s (at + 2) 0) ≡ 7
+    assign-start = rw (eq-eqb (getD s (at + 2) 0) 1 k)
+
+    pub seven-bytes : 7 ≤ 2 + numberOf 2 (drop at s)
+    seven-bytes = omega (arith, h .starts, assign-start)
+
+    pub assign-line : (p y len : ℕ) → p ≡ numberOf 2 (drop (at + 3) s) → y ≡ numberOf 2 (drop (at + 5) s) → len ≡ numberOf 2 (drop at s)
+        → decimal p ++ ascii " assign s" ++ decimal y ++ exprText (tokensOf (parse Trace (below 4160) (take (at + 2 + len - (at + 7)) (drop (at + 7) s)))) ++ ascii "\n"
+        ≡ lineIn (held (drop at s))
+    assign-line p y len a b l =
+        let e = exprText (exprOf (h .statement)) in
+        ap (λ q. decimal p ++ ascii " assign s" ++ decimal y ++ exprText (tokensOf q) ++ ascii "\n") (expr-part h 4160 len 7 refl l (sym assign-start))
+        ∙ ap (λ q. decimal q ++ ascii " assign s" ++ decimal y ++ e ++ ascii "\n") a
+        ∙ ap (λ q. decimal (numberOf 2 (drop (at + 3) s)) ++ ascii " assign s" ++ decimal q ++ e ++ ascii "\n") b
+        ∙ sym (ap lineIn (h .is ∙ ap Good (h .assigns k .0)))
+
+    pub assign-whole : (len : ℕ) → len ≡ numberOf 2 (drop at s) → isWhole (parse Trace (below 4160) (take (at + 2 + len - (at + 7)) (drop (at + 7) s))) ≡ true
+    assign-whole len l = ap isWhole (expr-part h 4160 len 7 refl l (sym assign-start))
+
+  module _ (k : getD s (at + 2) 0 ≡ 1 → ⊥) where
+    test-start : exprStart (getD s (at + 2) 0) ≡ 5
+    test-start = rw (ne-eqb (getD s (at + 2) 0) 1 k)
+
+    pub test-line : (p len : ℕ) → p ≡ numberOf 2 (drop (at + 3) s) → len ≡ numberOf 2 (drop at s)
+        → decimal p ++ (ascii " " ++ ascii (kindName (kindOf (getD s (at + 2) 0))))
+        ++ exprText (tokensOf (parse Trace (below 4160) (take (at + 2 + len - (at + 5)) (drop (at + 5) s)))) ++ ascii "\n"
+        ≡ lineIn (held (drop at s))
+    test-line p len a l =
+        let n = ascii (kindName (kindOf (getD s (at + 2) 0))) in
+        let e = exprText (tokensOf (parse Trace (below 4160) (take (at + 2 + len - (at + 5)) (drop (at + 5) s)))) in
+        ap (λ q. q ++ e ++ ascii "\n") (sym (append-snoc (decimal p) 32 n))
+        ∙ ap (λ q. decimal p ++ ascii " " ++ n ++ exprText (tokensOf q) ++ ascii "\n") (expr-part h 4160 len 5 refl l (sym test-start))
+        ∙ ap (λ q. decimal q ++ ascii " " ++ n ++ exprText (exprOf (h .statement)) ++ ascii "\n") a
+        ∙ sym (ap lineIn (h .is ∙ ap Good (h .tests k .0)))
+
+    pub test-whole : (len : ℕ) → len ≡ numberOf 2 (drop at s) → isWhole (parse Trace (below 4160) (take (at + 2 + len - (at + 5)) (drop (at + 5) s))) ≡ true
+    test-whole len l = ap isWhole (expr-part h 4160 len 5 refl l (sym test-start))
+
+-- ---- the loop
+
+-- `left` are the statements from the record at `at` on
+pub record Listing (s : List ℕ) (n : ℕ) (out₀ : List ℕ) (to : ℕ) (out : List ℕ) (k at next : ℕ) : Type 0 where
+  pub S : ℕ
+  pub σ : Seen
+  pub left : List Stmt
+  pub wide : Wider (S + 4096) σ 4160 loose
+  pub read : stmtsFrom S (n - k) σ (drop at s) ≡ Read left
+  pub wrote : Ahead out next (stmtLines left) out₀ to (stmtLines (listed (readTrace s)))
+  pub inside : at ≤ length s
+  pub few : length s ≤ 65535
+  pub count : n ≤ 4096
+  pub little : next ≤ 6 * at
+
+pub listing-start : (s out : List ℕ) (n to : ℕ) → All Byte s → isAccepted (readTrace s) ≡ true → n ≡ headerCount s → to ≤ 36 → Listing s n out to out 0 6 to
+unfolding readTrace
+listing-start s out n to o h q l = go (readTrace s) refl h
+  where
+    go : (x : Input Stmt) → readTrace s ≡ x → isAccepted x ≡ true → Listing s n out to out 0 6 to
+    go (Accepted S ts) e h =
+        let f = file-is 129 4096 stmts s S ts e in
+        let g = header-is 129 4096 s (f .header) in
+        record {
+          S = S;
+          σ = atFirst S;
+          left = ts;
+          wide = record { higher = omega (arith, g .inputs, f .inputs); lower = omega arith; reads = λ x q. lt-ltb x 4160 (omega (arith, ltb-true x S q, g .inputs, f .inputs)) };
+          read = ap (λ m. stmtsFrom S m (atFirst S) (drop 6 s)) (let z : n - 0 ≡ headerCount s = omega arith in z) ∙ f .read;
+          wrote = subst (λ xs. Ahead out to (stmtLines ts) out to (stmtLines xs)) (sym (ap listed e)) (ahead-start out to (stmtLines ts));
+          inside = g .long;
+          few = omega (arith, short 129 4096 s o (f .header));
+          count = omega (arith, g .count);
+          little = omega arith;
+        }
+    go (Refused r f) e h = absurd (let z : _≡_ {A = ℕ} 0 1 = cc in omega arith)
+
+module _ {s : List ℕ} {n : ℕ} {out₀ : List ℕ} {to : ℕ} {out : List ℕ} {k at next : ℕ} (v : Listing s n out₀ to out k at next) where
+  module _ (h : k < n) where
+    following : Next (stmt (v .S + 4096)) see s at (n - (k + 1)) (v .σ) (v .left)
+    following =
+        next-record (stmt (v .S + 4096)) see s at (n - (k + 1)) (v .σ) (v .left)
+        (ap (λ m. stmtsFrom (v .S) m (v .σ) (drop at s)) (let z : suc (n - (k + 1)) ≡ n - k = omega arith in z) ∙ v .read)
+
+    holds : held (drop at s) ≡ Good (following .head)
+    holds = record-wider (v .S + 4096) (v .σ) 4160 loose (v .wide) (drop at s) (following .head) (following .good)
+
+    pub listing-good : isGood (held (drop at s)) ≡ true
+    listing-good = ap isGood holds
+
+    pub listing-inside : at + 2 + numberOf 2 (drop at s) ≤ length s
+    listing-inside = held-at 4160 loose s at listing-good .whole
+
+    pub listing-room : 393210 ≤ length out₀ → next + 6 * (2 + numberOf 2 (drop at s)) ≤ length out
+    listing-room r = omega (arith, v .little, v .few, listing-inside, ahead-length (v .wrote))
+
+    pub listing-on : {out′ : List ℕ} {next′ : ℕ} → Wrote out next (lineIn (held (drop at s))) out′ next′ × (next′ ≤ next + 6 * (2 + numberOf 2 (drop at s)))
+        → (len : ℕ) → len ≡ numberOf 2 (drop at s) → Listing s n out₀ to out′ (k + 1) (at + (2 + len)) next′
+    listing-on {out′} {next′} (w, l) len q =
+        let f : numberOf 2 (drop at s) ≡ frame (drop at s) = framed (drop at s) (record-good (stmt (v .S + 4096) (v .σ)) (drop at s) (following .head) (following .good) .0) .is in
+        record {
+          S = v .S;
+          σ = see (v .σ) (following .head);
+          left = following .tail;
+          wide = wider-after (v .S + 4096) (v .σ) (v .wide) (drop at s) (following .head) (following .good);
+          read = ap (λ m. stmtsFrom (v .S) (n - (k + 1)) (see (v .σ) (following .head)) (drop (at + (2 + m)) s)) (q ∙ f) ∙ following .on;
+          wrote = ahead-step (v .wrote) (ap stmtLines (following .is) ∙ ap (λ b. lineIn b ++ stmtLines (following .tail)) (sym holds)) w;
+          inside = omega (arith, listing-inside);
+          few = v .few;
+          count = v .count;
+          little = omega (arith, v .little);
+        }
+
+  pub listing-end : n ≤ k → Wrote out₀ to (stmtLines (listed (readTrace s))) out next × (next ≤ 393210)
+  listing-end h = (ahead-end (v .wrote) (none (v .left) (omega (arith, none-left))), omega (arith, v .little, v .inside, v .few))
+    where
+      none-left : length (v .left) ≡ n - k
+      none-left = records-chain (stmt (v .S + 4096)) see s (λ σ a. Unit {0}) (λ σ l m a q. tt) (n - k) at (v .σ) (v .left) (v .read) .1
+
+      none : (ts : List Stmt) → length ts ≡ 0 → stmtLines ts ≡ []
+      none [] e = refl
+      none (t ∷ ts) e = absurd (omega arith)
+
+-- ---- the whole text
+
+pub record Told (s : List ℕ) : Type 0 where
+  pub long : 6 ≤ length s
+  pub inputs : headerInputs s ≤ 64
+  pub count : headerCount s ≤ 4096
+  pub text : firstLine (headerInputs s) (headerCount s) ++ stmtLines (listed (readTrace s)) ≡ traceText (readTrace s)
+
+pub told : (s : List ℕ) → isAccepted (readTrace s) ≡ true → Told s
+unfolding readTrace
+told s h = go (readTrace s) refl h
+  where
+    go : (x : Input Stmt) → readTrace s ≡ x → isAccepted x ≡ true → Told s
+    go (Accepted S ts) e h =
+        let f = file-is 129 4096 stmts s S ts e in
+        let g = header-is 129 4096 s (f .header) in
+        let k : length ts ≡ headerCount s = records-chain (stmt (S + 4096)) see s (λ σ a. Unit {0}) (λ σ l m a q. tt) (headerCount s) 6 (atFirst S) ts (f .read) .1 in
+        record {
+          long = g .long;
+          inputs = g .inputs;
+          count = g .count;
+          text =
+              ap (λ x. firstLine (headerInputs s) (headerCount s) ++ stmtLines (listed x)) e
+              ∙ ap (λ S. firstLine S (headerCount s) ++ stmtLines ts) (f .inputs)
+              ∙ ap (λ n. firstLine S n ++ stmtLines ts) (sym k)
+              ∙ sym (ap traceText e);
+        }
+    go (Refused r f) e h = absurd (let z : _≡_ {A = ℕ} 0 1 = cc in omega arith)
+
+-- with the code's own numbers
+pub told-text : (s : List ℕ) → Told s → (S n : ℕ) → S ≡ headerInputs s → n ≡ headerCount s → firstLine S n ++ stmtLines (listed (readTrace s)) ≡ traceText (readTrace s)
+told-text s t S n p q =
+    ap (λ S. firstLine S n ++ stmtLines (listed (readTrace s))) p
+    ∙ ap (λ n. firstLine (headerInputs s) n ++ stmtLines (listed (readTrace s))) q
+    ∙ t .text

@@ -1,0 +1,60 @@
+-- S has at most two digits, so the line fits.
+use borrow.Author.Needs.{needs}
+use Rattle.show.proofs.line.put_first.Statement.{statement}
+use Rattle.show.proofs.line.put_first.Tie as tie
+use native.Mathlib.Omega.{arith}
+use Rattle.write.specs.SpliceLaws.{_then_}
+use Rattle.show.proofs.Decimal.{two-digits}
+
+slice-aggregate-put-part : tie.Need-slice-aggregate-put-part
+slice-aggregate-put-part c = search needs
+
+put-part-requires : tie.Need-put-part-requires
+put-part-requires c κs = search needs
+
+cast-put-decimal : tie.Need-cast-put-decimal
+cast-put-decimal c = search needs
+
+put-decimal-requires : tie.Need-put-decimal-requires
+put-decimal-requires c κs = search needs
+
+slice-aggregate-put-part-2 : tie.Need-slice-aggregate-put-part-2
+slice-aggregate-put-part-2 c = search needs
+
+put-part-requires-2 : tie.Need-put-part-requires-2
+put-part-requires-2 c κs = search needs
+
+cast-put-decimal-2 : tie.Need-cast-put-decimal-2
+cast-put-decimal-2 c = search needs
+
+put-decimal-requires-2 : tie.Need-put-decimal-requires-2
+put-decimal-requires-2 c κs = search (needs, two-digits (c .before .before .before .before .before .before .before .before .before .before .before .before .before .before .before .before .args .inputs) (omega (arith, c .before .before .before .before .before .before .before .before .before .before .before .before .before .before .before .before .pre .0)), c .before .before .before .before .before .before .before .before .put-decimal .ensures .0 .next)
+
+slice-aggregate-put-part-3 : tie.Need-slice-aggregate-put-part-3
+slice-aggregate-put-part-3 c = search needs
+
+put-part-requires-3 : tie.Need-put-part-requires-3
+put-part-requires-3 c κs = search (needs, two-digits (c .before .before .before .before .before .before .before .before .before .before .before .before .before .before .before .before .before .before .before .before .before .args .inputs) (omega (arith, c .before .before .before .before .before .before .before .before .before .before .before .before .before .before .before .before .before .before .before .before .before .pre .0)), c .before .before .before .before .before .before .before .before .before .before .before .before .before .put-decimal .ensures .0 .next)
+
+same-length : tie.Need-same-length
+same-length c = search needs
+
+returns : tie.Need-returns
+returns c = ((((c .before .before .before .before .before .before .before .before .before .before .before .before .before .before .before .before .before .before .before .before .put-part .ensures then c .before .before .before .before .before .before .before .before .before .before .before .before .before .before .before .before .put-decimal .ensures .0) then c .before .before .before .before .before .before .before .before .before .before .before .put-part2 .ensures) then c .before .before .before .before .before .before .before .put-decimal2 .ensures .0) then c .before .before .put-part3 .ensures, omega (arith, two-digits (c .before .before .before .before .before .before .before .before .before .before .before .before .before .before .before .before .before .before .before .before .before .before .before .before .args .inputs) (omega (arith, c .before .before .before .before .before .before .before .before .before .before .before .before .before .before .before .before .before .before .before .before .before .before .before .before .pre .0)), c .before .before .before .before .before .before .before .before .before .before .before .before .before .before .before .before .before .before .before .before .put-part .ensures .next, c .before .before .before .before .before .before .before .before .before .before .before .before .before .before .before .before .put-decimal .ensures .0 .next, c .before .before .before .before .before .before .before .before .before .before .before .put-part2 .ensures .next, c .before .before .before .before .before .before .before .put-decimal2 .ensures .1, c .before .before .put-part3 .ensures .next))
+
+pub put-first-spec : {M : Type 1} → statement M
+put-first-spec =
+    tie.close
+    (tie.spec
+    slice-aggregate-put-part
+    put-part-requires
+    cast-put-decimal
+    put-decimal-requires
+    slice-aggregate-put-part-2
+    put-part-requires-2
+    cast-put-decimal-2
+    put-decimal-requires-2
+    slice-aggregate-put-part-3
+    put-part-requires-3
+    same-length
+    returns)

@@ -1,0 +1,75 @@
+// The lines of a trace.
+use super::word;
+use expr::number;
+ghost use mathlib.Core.Path.{_≡_};
+ghost use mathlib.Core.Bool.{true};
+ghost use Prim.Native.Nat.{_+_, _*_, _≤_, _<_};
+ghost use lib.ListN.{length, drop};
+ghost use Rattle.expr.specs.Number.{numberOf};
+ghost use Rattle.file.specs.File.{headerCount};
+ghost use Rattle.file.specs.Shown.{isGood, isAccepted, listed};
+ghost use Rattle.trace.specs.Trace.{readTrace};
+ghost use Rattle.trace.specs.Shown.{held};
+ghost use Rattle.write.specs.Splice.{Wrote};
+ghost use Rattle.show.specs.Text.{stmtLines, traceText};
+ghost use Rattle.show.specs.Shown.{lineIn, firstLine};
+
+// The line of the record at a place. No line has more letters than six for each of the record's bytes.
+fn put_line(trace: &[u8], at: usize, out: &mut [u8], to: usize) -> usize
+    requires { ⌜ (at < 65536) × (isGood (held (drop at (now trace))) ≡ true) × (to + 6 * (2 + numberOf 2 (drop at (now trace))) ≤ length (now out)) ⌝ }
+    ensures { λ r. ⌜ Wrote (now (out .entry)) to (lineIn (held (drop at (now (trace .entry))))) (now (out .exit)) r × (r ≤ to + 6 * (2 + numberOf 2 (drop at (now (trace .entry))))) ⌝ }
+{
+    let end = at + 2 + number::two_at(trace, at);
+    let kind = trace[at + 2];
+    let place = number::two_at(trace, at + 3);
+    let a = word::put_decimal(place as u32, out, to);
+    if kind == 1 {
+        let symbol = number::two_at(trace, at + 5);
+        let b = write::put_part(b" assign s", out, a);
+        let c = word::put_decimal(symbol as u32, out, b);
+        let d = word::put_tokens(&trace[at + 7..end], out, c);
+        return write::put_part(b"\n", out, d);
+    }
+    let b = word::put_kind(kind, out, a);
+    let c = word::put_tokens(&trace[at + 5..end], out, b);
+    write::put_part(b"\n", out, c)
+}
+
+// S and the statement count, from the buffer's first byte.
+fn put_first(inputs: usize, n: usize, out: &mut [u8]) -> usize
+    requires { ⌜ (inputs ≤ 64) × (n ≤ 4096) × (36 ≤ length (now out)) ⌝ }
+    ensures { λ r. ⌜ Wrote (now (out .entry)) 0 (firstLine inputs n) (now (out .exit)) r × (r ≤ 36) ⌝ }
+{
+    let a = write::put_part(b"inputs ", out, 0);
+    let b = word::put_decimal(inputs as u32, out, a);
+    let c = write::put_part(b" statements ", out, b);
+    let d = word::put_decimal(n as u32, out, c);
+    write::put_part(b"\n", out, d)
+}
+
+// A line for each statement.
+fn put_lines(trace: &[u8], n: usize, out: &mut [u8], to: usize) -> usize
+    requires { ⌜ (isAccepted (readTrace (now trace)) ≡ true) × (n ≡ headerCount (now trace)) × (to ≤ 36) × (393210 ≤ length (now out)) ⌝ }
+    ensures { λ r. ⌜ Wrote (now (out .entry)) to (stmtLines (listed (readTrace (now (trace .entry))))) (now (out .exit)) r × (r ≤ 393210) ⌝ }
+{
+    let mut k: usize = 0;
+    let mut at: usize = 6;
+    let mut next = to;
+    while k < n {
+        next = put_line(trace, at, &mut *out, next);
+        at += 2 + number::two_at(trace, at);
+        k += 1;
+    }
+    next
+}
+
+// The text of an accepted trace, from the buffer's first byte.
+pub fn put_slice(trace: &[u8], out: &mut [u8]) -> usize
+    requires { ⌜ (isAccepted (readTrace (now trace)) ≡ true) × (393210 ≤ length (now out)) ⌝ }
+    ensures { λ r. ⌜ Wrote (now (out .entry)) 0 (traceText (readTrace (now (trace .entry)))) (now (out .exit)) r × (r ≤ 393210) ⌝ }
+{
+    let inputs = number::wide(trace[3]);
+    let n = number::two_at(trace, 4);
+    let a = put_first(inputs, n, out);
+    put_lines(trace, n, out, a)
+}
