@@ -3,33 +3,33 @@
 -- 1. That the trace can be written says everything that is needed of the table. No refusal has reply 0, so the table was accepted, K is
 --    at most 255, the trace is within 4,096 statements and 65,535 bytes, and the bytes t are those of the unwound table (`trace-written`).
 -- 2. Reading gives back what was written. An accepted table is well formed, so its trace is, and so is the slice of that, which is no
---    longer; what is well formed and within the limits is read as what it is (`trace-read`, `slice-read`). Hence slicing refuses nothing.
+--    longer; what is well formed and within the limits is read as what it is (`read-back`, `slice-read`). Hence slicing refuses nothing.
 -- 3. Judging the trace is running the table (`unwind-verdict`), and the slice has its trace's verdict and place (`slice-verdict`). So
 --    judging t, or the slice's bytes, answers what running answers, to the last number (`judged-trace`, `judged-slice`): all of
 --    demand 3's first sentence.
 -- 4. What is not read cannot matter. An input that the slice reads has its bit in the mask (`mask-bit`), and past the inputs a valuation
 --    says nothing. So two valuations that agree on the mask's inputs agree on all that the slice reads, and it has one verdict and one
 --    place under both; by step 3 so have the trace and the run.
-use Prim.Native.Nat.{ℕ, _≤_, _<_}
+use Prim.Native.Nat.{ℕ}
 use native.Mathlib.Omega.{arith}
 use native.Mathlib.Decide.{decLt}
 use mathlib.Core.Path.{_≡_, refl, sym, ap, _∙_, subst}
 use mathlib.Core.Logic.{_↔_}
-use mathlib.Core.Bool.{Bool, true, false, cond, _&&_}
+use mathlib.Core.Bool.{Bool, true, false, cond}
 use mathlib.Core.List.{List, [], _∷_}
 use lib.ListN.{length, getD, List·getD-eq-default}
 use lib.Dec.{eqb, leb, ltb}
-use borrow.Author.Tests.{eq-eqb, leb-true, le-leb, ltb-true}
-use Rattle.expr.specs.Lists.{All, all-at, and-both, every-below}
+use borrow.Author.Tests.{eq-eqb, le-leb, ltb-true}
+use Rattle.expr.specs.Lists.{All, all-at, every-below}
 use Rattle.expr.specs.Number.{Byte}
 use Rattle.expr.specs.Word.{test}
 use Rattle.expr.specs.Eval.{envOf}
 use Rattle.file.specs.Outcome.{Assume, verdict, placeOf}
-use Rattle.file.specs.File.{headerInputs, Input, Accepted, Refused}
-use Rattle.file.specs.FileLaws.{file-is, file-refused-positive}
+use Rattle.file.specs.File.{headerInputs, Accepted}
+use Rattle.file.specs.FileLaws.{file-is}
 use Rattle.table.specs.declared.Answer as Ran
-use Rattle.table.specs.Table.{Instr, instr, instrs, readTable}
-use Rattle.table.specs.TableLaws.{instr-low, IsTable, table-ok}
+use Rattle.table.specs.Table.{Instr, instrs, readTable}
+use Rattle.table.specs.TableLaws.{IsTable, table-ok}
 use Rattle.table.specs.Run.{run}
 use Rattle.table.specs.Answer as Running
 use Rattle.table.specs.Answer.{runAnswer}
@@ -41,75 +41,22 @@ use Rattle.trace.specs.Judge.{judge}
 use Rattle.trace.specs.Answer as Judging
 use Rattle.trace.specs.Answer.{judgeAnswer}
 use Rattle.unwind.specs.Unwind.{unwind}
-use Rattle.unwind.specs.UnwindLaws.{unwind-ok, unwind-accepted}
+use Rattle.unwind.specs.UnwindLaws.{unwind-ok}
 use Rattle.unwind.specs.AgreeLaws.{unwind-verdict}
-use Rattle.unwind.specs.Answer as Tracing
 use Rattle.unwind.specs.Answer.{traceAnswer}
+use Rattle.unwind.specs.AnswerLaws.{IsTrace, trace-written, trace-read}
 use Rattle.unwind.specs.Cases.{m5}
 use Rattle.slice.specs.Slice.{slice}
 use Rattle.slice.specs.Mask.{inputMask}
-use Rattle.slice.specs.SliceLaws.{slice-verdict, slice-ok, slice-shorter, slice-smaller, encode-length}
+use Rattle.slice.specs.SliceLaws.{slice-verdict, slice-ok, slice-shorter, slice-fits, slice-done, encode-length}
 use Rattle.slice.specs.MaskLaws.{mask-bit}
 use Rattle.slice.specs.Answer as Slicing
 use Rattle.slice.specs.Answer.{sliceAnswer}
 use Rattle.demands.specs.Demand3.{RunUnsafeAt, UnsafeAt, RunOneVerdict, OneVerdict, AgreeOn, OneAnswer, Demand3}
 
--- ---- the trace can be written
-
-table-refused-positive : (b : List ℕ) (r at : ℕ) → readTable b ≡ Refused r at → 0 < r
-unfolding readTable
-table-refused-positive b = file-refused-positive {St = Unit {0}} 1 1024 (λ S n u. instr S n) (λ u a. u) (λ S. tt) (λ S n u. instr-low S n) b
-
--- t is the trace of the accepted table, within the limits
-record Written (b : List ℕ) (K S : ℕ) (is : List Instr) (t : List ℕ) : Type 0 where
-  accepted : readTable b ≡ Accepted S is
-  bound : K ≤ 255
-  count : length (unwind Assume S is K) ≤ 4096
-  total : length (encodeTrace S (unwind Assume S is K)) ≤ 65535
-  bytes : t ≡ encodeTrace S (unwind Assume S is K)
-
-module _ (b : List ℕ) (K room S : ℕ) (is : List Instr) where
-  -- the answer, by the tests for 8, 9 and 10
-  abbrev tested : (x y z : Bool) → Tracing.Traced
-  tested x y z =
-      cond x
-      (cond y
-      (cond z (record { reply = 0; offset = 0; bytes = encodeTrace S (unwind Assume S is K) })
-      (Tracing.refusal 10 0))
-      (Tracing.refusal 9 0))
-      (Tracing.refusal 8 0)
-
-  tests-passed : readTable b ≡ Accepted S is
-      → (x : Bool) → leb K 255 ≡ x
-      → (y : Bool) → (leb (length (unwind Assume S is K)) 4096 && leb (length (encodeTrace S (unwind Assume S is K))) 65535) ≡ y
-      → (z : Bool) → (tested x y z) .reply ≡ 0 → Written b K S is ((tested x y z) .bytes)
-  tests-passed a false e y f z h = absurd (omega arith)
-  tests-passed a true e false f z h = absurd (omega arith)
-  tests-passed a true e true f false h = absurd (omega arith)
-  tests-passed a true e true f true h =
-      let ts = unwind Assume S is K in
-      let l = and-both (leb (length ts) 4096) (leb (length (encodeTrace S ts)) 65535) f in
-      record {
-        accepted = a;
-        bound = leb-true K 255 e;
-        count = leb-true (length ts) 4096 (l .0);
-        total = leb-true (length (encodeTrace S ts)) 65535 (l .1);
-        bytes = refl;
-      }
-
-trace-written : (b : List ℕ) (K room : ℕ) → (traceAnswer b K room) .reply ≡ 0
-    → (S : ℕ) × (is : List Instr) × Written b K S is ((traceAnswer b K room) .bytes)
-unfolding traceAnswer
-trace-written b K room h = go (readTable b) refl h
-  where
-    go : (i : Input Instr) → readTable b ≡ i → (Tracing.answered K room i) .reply ≡ 0
-        → (S : ℕ) × (is : List Instr) × Written b K S is ((Tracing.answered K room i) .bytes)
-    go (Refused r at) q h = absurd (omega (arith, table-refused-positive b r at q))
-    go (Accepted S is) q h = (S, is, tests-passed b K room S is q (leb K 255) refl _ refl (leb (length (encodeTrace S (unwind Assume S is K))) room) h)
-
 -- ---- what was written is read
 
-module _ (b : List ℕ) (K S : ℕ) (is : List Instr) (t : List ℕ) (o : All Byte b) (w : Written b K S is t) where
+module _ (b : List ℕ) (K S : ℕ) (is : List Instr) (t : List ℕ) (o : All Byte b) (w : IsTrace b K S is t) where
   -- the trace's statements
   abbrev ts : List Stmt
   ts = unwind Assume S is K
@@ -121,31 +68,18 @@ module _ (b : List ℕ) (K S : ℕ) (is : List Instr) (t : List ℕ) (o : All By
   unfolding readTable
   inputs = file-is 1 1024 instrs b S is (w .accepted) .inputs
 
-  trace-read : readTrace t ≡ Accepted S ts
-  trace-read = ap readTrace (w .bytes) ∙ unwind-accepted S is K (table .ok) (table .inputs) (w .count) (w .total)
-
-  slice-fits : length (encodeTrace S (slice ts)) ≤ length t
-  slice-fits = omega (arith, encode-length S ts, encode-length S (slice ts), slice-smaller ts, ap length (w .bytes))
+  read-back : readTrace t ≡ Accepted S ts
+  read-back = trace-read b K S is t o w
 
   slice-read : readTrace (encodeTrace S (slice ts)) ≡ Accepted S (slice ts)
   slice-read =
       read-encode S (slice ts) (table .inputs) (omega (arith, slice-shorter ts, w .count))
-      (omega (arith, slice-fits, encode-length S (slice ts), ap length (w .bytes), w .total))
+      (omega (arith, slice-fits S ts, encode-length S (slice ts), w .total))
       (slice-ok S ts (unwind-ok S is K (table .ok) (table .inputs) (w .count)))
 
-  -- slicing, by the test for 10
-  slice-tested : (room : ℕ)
-      → sliceAnswer t room ≡ cond (leb (length (encodeTrace S (slice ts))) room) (Slicing.sliceOf S (slice ts)) (Slicing.refusal 10 0)
-  unfolding sliceAnswer
-  slice-tested room = ap (Slicing.answered room) trace-read
-
-  slice-done : (room : ℕ) → length t ≤ room → (sliceAnswer t room) .reply ≡ 0
-  slice-done room h =
-      ap (λ q. q .reply) (slice-tested room)
-      ∙ ap (λ x. (cond x (Slicing.sliceOf S (slice ts)) (Slicing.refusal 10 0)) .reply) (le-leb (length (encodeTrace S (slice ts))) room (omega (arith, slice-fits)))
-
   slice-answer : (room : ℕ) → (sliceAnswer t room) .reply ≡ 0 → sliceAnswer t room ≡ Slicing.sliceOf S (slice ts)
-  slice-answer room h = go (leb (length (encodeTrace S (slice ts))) room) (slice-tested room)
+  unfolding sliceAnswer
+  slice-answer room h = go (leb (length (encodeTrace S (slice ts))) room) (ap (Slicing.answered room) read-back)
     where
       go : (x : Bool) → sliceAnswer t room ≡ cond x (Slicing.sliceOf S (slice ts)) (Slicing.refusal 10 0) → sliceAnswer t room ≡ Slicing.sliceOf S (slice ts)
       go true q = q
@@ -175,7 +109,7 @@ module _ (b : List ℕ) (K S : ℕ) (is : List Instr) (t : List ℕ) (o : All By
       go false = refl
 
   judged-trace : (v : List ℕ) → judgeAnswer t v ≡ judged (runAnswer b K v)
-  judged-trace v = judged-like-run t ts trace-read v (unwind-verdict S is K v (table .ok))
+  judged-trace v = judged-like-run t ts read-back v (unwind-verdict S is K v (table .ok))
 
   judged-slice : (v : List ℕ) → judgeAnswer (encodeTrace S (slice ts)) v ≡ judged (runAnswer b K v)
   judged-slice v =
@@ -234,7 +168,7 @@ module _ (b : List ℕ) (K S : ℕ) (is : List Instr) (t : List ℕ) (o : All By
 
   written-demand : Demand3 b K t
   written-demand = record {
-    sliced = slice-done;
+    sliced = λ room h. ap (λ q. q .reply) (slice-done t S ts room read-back (omega (arith, slice-fits S ts, ap length (w .bytes))));
     alike = λ room h. subst (OneAnswer b K t) (sym (slice-answer room h)) one-answer;
   }
 

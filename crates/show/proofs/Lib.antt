@@ -2,3 +2,4 @@ pub mod Decimal
 pub mod Names
 pub mod Exprs
 pub mod Lines
+pub mod Whole

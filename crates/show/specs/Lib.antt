@@ -1,6 +1,8 @@
 -- What a reader must believe, beside document 01.
 pub mod Ascii
 pub mod Text
+pub mod TextLaws
+pub mod Answer
 pub mod Cases
 -- What the code's values mean in these terms.
 pub mod Shown

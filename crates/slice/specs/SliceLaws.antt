@@ -16,7 +16,7 @@ use mathlib.Core.Logic.{_↔_}
 use mathlib.Core.List.{List, [], _∷_}
 use lib.Dec.{eqb, leb}
 use lib.ListN.{length, length-append}
-use borrow.Author.Tests.{eqb-true, eq-eqb}
+use borrow.Author.Tests.{eqb-true, eq-eqb, le-leb}
 use Rattle.expr.specs.Lists.{All, or-left, or-right, or-cases}
 use Rattle.expr.specs.Number.{Byte}
 use Rattle.expr.specs.Word.{truthy}
@@ -227,6 +227,10 @@ pub encode-length : (S : ℕ) (ts : List Stmt) → length (encodeTrace S ts) ≡
 unfolding encode
 encode-length S ts = omega arith
 
+-- its bytes are no more than the trace's
+pub slice-fits : (S : ℕ) (ts : List Stmt) → length (encodeTrace S (slice ts)) ≤ length (encodeTrace S ts)
+slice-fits S ts = omega (arith, encode-length S ts, encode-length S (slice ts), slice-smaller ts)
+
 pub slice-accepted : (s : List ℕ) (S : ℕ) (ts : List Stmt) → All Byte s → readTrace s ≡ Accepted S ts
     → readTrace (encodeTrace S (slice ts)) ≡ Accepted S (slice ts)
 unfolding readTrace
@@ -235,6 +239,13 @@ slice-accepted s S ts o h =
     let few : length s < 65536 = short 129 4096 s o (file-is 129 4096 stmts s S ts h .header) in
     let total : length s ≡ 6 + length (recordsBytes stmtBytes ts) = sym (ap length (encode-read s S ts o h)) ∙ encode-length S ts in
     read-encode S (slice ts) (t .inputs) (omega (arith, t .few, slice-shorter ts)) (omega (arith, slice-smaller ts)) (slice-ok S ts (t .ok))
+
+-- where it fits, nothing is refused
+pub slice-done : (s : List ℕ) (S : ℕ) (ts : List Stmt) (room : ℕ) → readTrace s ≡ Accepted S ts → length (encodeTrace S (slice ts)) ≤ room
+    → sliceAnswer s room ≡ sliceOf S (slice ts)
+unfolding sliceAnswer
+slice-done s S ts room h fits =
+    ap (answered room) h ∙ ap (λ b. cond b (sliceOf S (slice ts)) (refusal 10 0)) (le-leb (length (encodeTrace S (slice ts))) room fits)
 
 -- ---- the slice of a slice
 

@@ -16,9 +16,9 @@ use Rattle.expr.specs.Expr.{below, Whole, parse}
 use Rattle.expr.specs.TokenLaws.{Holds}
 use Rattle.expr.specs.ExprLaws.{Ok, parse-accepted, parse-more}
 use Rattle.file.specs.Outcome.{Assume, Assert}
-use Rattle.file.specs.File.{headerCount, Body, Good, Bad, field, frame, Read, recordOf, Accepted}
+use Rattle.file.specs.File.{headerCount, Body, Good, Bad, field, frame, Read, recordOf, Accepted, Refused}
 use Rattle.file.specs.Shown.{offsetsFrom}
-use Rattle.file.specs.FileLaws.{Low, holding-low, cond-low, framed, record-framed, record-good, next-record, Chain, records-chain, header-is, file-is, field-there, field-good, rule-good, holding-good}
+use Rattle.file.specs.FileLaws.{Low, holding-low, cond-low, framed, record-framed, record-good, next-record, Chain, records-chain, header-is, file-is, file-refused-positive, field-there, field-good, rule-good, holding-good}
 use Rattle.table.specs.Table.{Instr, Assign, Test, IfThenGoto, assign, test, ifThenGoto, instr, instrsFrom, instrs, readTable}
 
 -- ---- a record by its kind
@@ -67,6 +67,11 @@ instr-low S n (k ∷ bs) =
 
     six : (5 ≤ 6) × (6 ≤ 7)
     six = omega arith
+
+-- a refused table's reply is not 0
+pub table-refused-positive : (b : List ℕ) (r at : ℕ) → readTable b ≡ Refused r at → 0 < r
+unfolding readTable
+table-refused-positive b = file-refused-positive {St = Unit {0}} 1 1024 (λ S n u. instr S n) (λ u a. u) (λ S. tt) (λ S n u. instr-low S n) b
 
 -- ---- what a record that is read says
 

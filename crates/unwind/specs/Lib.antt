@@ -5,6 +5,7 @@ pub mod UnwindLaws
 pub mod Size
 pub mod SizeLaws
 pub mod Answer
+pub mod AnswerLaws
 pub mod Cases
 -- Judging the trace is running the table.
 pub mod Gated
