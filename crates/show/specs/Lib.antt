@@ -3,6 +3,7 @@ pub mod Ascii
 pub mod Text
 pub mod TextLaws
 pub mod Answer
+pub mod AnswerLaws
 pub mod Cases
 -- What the code's values mean in these terms.
 pub mod Shown
