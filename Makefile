@@ -1,15 +1,20 @@
-# make run     the slice of a rule          make bench   speed against plain Rust, as ratios
-# make test    the gate                     make lib     target/staticlib/libkadvitul.a, for C and Rust
-# make fmt     lay every file out          make mutants wrong definitions, and which proof refuses each
+# make run     the slice of a rule: make run RULE=march K=2 (a rule of rules/, or the path of a table)
+# make test    the gate
+# make lib     target/staticlib/libkadvitul.a, for C and Rust
+# make bench   speed against plain Rust, as ratios
 # make soak    N generated cases of each call from seed SEED on, and demand 3: make soak N=1000000 SEED=1
+# make mutants wrong definitions, and which proof refuses each
+# make fmt     lay every file out
 
+RULE = small
+K = 0
 N = 100000
 SEED = 1
 
 .PHONY: run test bench lib soak fmt mutants
 
 run:
-	@echo "make run: the slice printer is not built yet (README.md says what is there)"
+	@tools/print "$(RULE)" "$(K)"
 
 test:
 	@tools/gate
