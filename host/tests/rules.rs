@@ -1,69 +1,94 @@
-//! The sample rules of `rules/`, through the archive.
+//! The sample rules of `rules/`, through the archive: what their stories say of them.
 
+use host::agreement::{archive_mask, archive_slice, archive_trace};
 use host::archive;
 use host::parts::Parts;
-use host::written::whole;
+
+const SMALL: &str = include_str!("../../rules/small.hex");
+const MARCH: &str = include_str!("../../rules/march.hex");
+const NEWER: &str = include_str!("../../rules/newer.hex");
+const STATIONS: &str = include_str!("../../rules/stations.hex");
+const REFUSED: &str = include_str!("../../rules/refused.hex");
 
 /// The bytes of a rule: hexadecimal, with comments after `#`.
-fn rule(text: &str) -> Vec<u8> {
+fn table(text: &str) -> Vec<u8> {
     let words = text.lines().filter(|line| !line.starts_with('#')).flat_map(str::split_whitespace);
     words.map(|word| u8::from_str_radix(word, 16).expect("two hexadecimal digits")).collect()
 }
 
-fn march() -> Vec<u8> {
-    rule(include_str!("../../rules/march.hex"))
+fn slice(text: &str, bound: u64) -> Vec<u8> {
+    archive_slice(&archive_trace(&table(text), bound))
 }
 
-fn trace(table: &[u8], bound: u64) -> Vec<u8> {
-    whole(|out| archive::trace_length(table, bound, out))
-}
-
-fn slice(trace: &[u8]) -> Vec<u8> {
-    whole(|out| archive::slice_length(trace, out))
-}
-
-/// Verdict and place of running a table, judging its trace and judging the slice.
-fn verdicts(table: &[u8], bound: u64, words: [u32; 2]) -> [(u32, u32); 3] {
-    let valuation: Vec<u8> = words.into_iter().flat_map(u32::to_be_bytes).collect();
-    let trace = trace(table, bound);
-    let run = archive::run(table, bound, &valuation);
+/// Verdict and place of running a rule, judging its trace and judging the slice.
+fn verdicts(text: &str, bound: u64, words: &[u32]) -> [(u32, u32); 3] {
+    let valuation: Vec<u8> = words.iter().flat_map(|word| word.to_be_bytes()).collect();
+    let trace = archive_trace(&table(text), bound);
+    let run = archive::run(&table(text), bound, &valuation);
     let judged = archive::judge(&trace, &valuation);
-    let sliced = archive::judge(&slice(&trace), &valuation);
+    let sliced = archive::judge(&archive_slice(&trace), &valuation);
     assert_eq!([run.reply, judged.reply, sliced.reply], [0; 3]);
     [(run.verdict, run.place), (judged.verdict, judged.place), (sliced.verdict, sliced.place)]
 }
 
+/// Kind and place of each statement.
+fn statements(trace: &[u8]) -> Vec<(u8, u16)> {
+    let records = Parts::of(trace).expect("a whole header").records;
+    records.iter().map(|record| (record[0], u16::from_be_bytes([record[1], record[2]]))).collect()
+}
+
 #[test]
-fn every_rule_is_accepted() {
-    for text in [include_str!("../../rules/march.hex"), include_str!("../../rules/small.hex")] {
-        let table = rule(text);
-        let reply = archive::trace_reply(&table, 3, &mut vec![0; 65_535]);
-        assert_eq!(reply, 0);
+fn every_rule_is_accepted_but_the_one_that_is_refused() {
+    for text in [SMALL, MARCH, NEWER, STATIONS] {
+        assert_eq!(archive::trace_reply(&table(text), 3, &mut vec![0; 65_535]), 0);
     }
+    assert_eq!(archive::trace_reply(&table(REFUSED), 3, &mut []), 6);
+    assert_eq!(archive::trace_offset(&table(REFUSED), 3, &mut []), 6);
 }
 
 #[test]
 fn the_rule_of_march_is_unsafe_in_run_trace_and_slice_where_its_counter_reaches_two() {
-    assert_eq!(verdicts(&march(), 2, [2, 0]), [(1, 2 * 8 + 6); 3]);
-    assert_eq!(verdicts(&march(), 5, [5, 9]), [(1, 5 * 8 + 6); 3]);
+    assert_eq!(verdicts(MARCH, 2, &[2, 0]), [(1, 2 * 8 + 6); 3]);
+    assert_eq!(verdicts(MARCH, 5, &[5, 9]), [(1, 5 * 8 + 6); 3]);
 }
 
 #[test]
 fn the_rule_of_march_is_safe_in_run_trace_and_slice_below_two_and_past_the_bound() {
-    assert_eq!(verdicts(&march(), 2, [1, 0]), [(0, 0); 3]);
-    assert_eq!(verdicts(&march(), 1, [2, 0]), [(0, 0); 3]);
+    assert_eq!(verdicts(MARCH, 2, &[1, 0]), [(0, 0); 3]);
+    assert_eq!(verdicts(MARCH, 1, &[2, 0]), [(0, 0); 3]);
 }
 
 #[test]
 fn the_slice_of_march_keeps_the_counters_assignments() {
-    let trace = trace(&march(), 2);
-    let places: Vec<u16> = Parts::of(&slice(&trace))
-        .expect("a whole header")
-        .records
-        .iter()
-        .map(|record| u16::from_be_bytes([record[1], record[2]]))
-        .collect();
+    let kept = statements(&slice(MARCH, 2));
     for place in [0, 2, 10] {
-        assert!(places.contains(&place), "place {place} is not in {places:?}");
+        assert!(kept.contains(&(1, place)), "no assignment at place {place} in {kept:?}");
+    }
+}
+
+#[test]
+fn the_merged_copy_is_newer_thanks_to_an_assume_that_the_slice_keeps() {
+    for versions in [[0, 0, 0], [65_535, 7, 9], [u32::MAX, 0, 0], [3, u32::MAX, 0]] {
+        assert_eq!(verdicts(NEWER, 0, &versions), [(0, 0); 3]);
+    }
+    assert!(statements(&slice(NEWER, 0)).contains(&(2, 0)));
+}
+
+#[test]
+fn the_merged_copy_is_not_newer_without_the_assume() {
+    let [assume, nothing] = ["26 01 00 01 00 00 2B", "26 01 FF FF FF FF 2D"];
+    assert!(NEWER.contains(assume), "s0 or s1 is below 65,536");
+    let changed = NEWER.replace(assume, nothing);
+    assert_eq!(verdicts(&changed, 0, &[u32::MAX, 0, 0]), [(1, 3); 3]);
+}
+
+#[test]
+fn one_fault_of_64_stations_is_found_and_every_input_is_read() {
+    assert_eq!(archive_mask(&archive_trace(&table(STATIONS), 0)), u64::MAX);
+    assert_eq!(verdicts(STATIONS, 3, &[0; 64]), [(0, 0); 3]);
+    for station in 0..64 {
+        let mut words = [0; 64];
+        words[station] = 1 << (station % 32);
+        assert_eq!(verdicts(STATIONS, 0, &words), [(1, 0); 3]);
     }
 }
