@@ -1,24 +1,18 @@
 -- The answer to slicing, by the way that the code takes to it: the header refuses, a record refuses, the buffer is too short, the slice is written.
 use Prim.Native.Nat.{ℕ, _+_, _≤_, _<_}
 use native.Mathlib.Omega.{arith}
-use mathlib.Core.Path.{_≡_, refl, sym, ap, ap₂, _∙_, fun-ext}
-use mathlib.Core.Bool.{Bool, true, false, cond, _||_}
+use mathlib.Core.Path.{_≡_, sym, ap, ap₂, _∙_}
+use mathlib.Core.Bool.{Bool, true, false, cond}
 use mathlib.Core.List.{List, _++_}
-use lib.ListN.{length, drop}
+use lib.ListN.{length}
 use lib.Count.{ones}
-use lib.Dec.{leb, ltb}
+use lib.Dec.{leb}
 use borrow.Author.Tests.{le-leb, lt-leb}
-use Rattle.expr.specs.Lists.{All, or-false}
+use Rattle.expr.specs.Lists.{All}
 use Rattle.expr.specs.Number.{Byte}
-use Rattle.file.specs.declared.Reading.{Reading}
-use Rattle.file.specs.File.{headerInputs, headerCount, headerReply, header, Body, Accepted, recordsBytes, encode}
+use Rattle.file.specs.File.{header, Accepted, Refused, recordsBytes, encode}
 use Rattle.file.specs.Shown.{isAccepted, listed}
-use Rattle.file.specs.FileLaws.{file-refused}
-use Rattle.file.specs.WalkLaws.{Walked}
-use Rattle.file.specs.ReadingLaws as Reading
-use Rattle.trace.specs.Trace.{Stmt, Seen, atFirst, see, stmt, stmtsFrom, stmts, readTrace, stmtBytes, encodeTrace, readsTrace}
-use Rattle.trace.specs.TraceLaws.{stmt-low}
-use Rattle.trace.specs.Shown.{seen, ReadRecords, Ready}
+use Rattle.trace.specs.Trace.{Stmt, readTrace, stmtBytes, encodeTrace, readsTrace}
 use Rattle.write.specs.Splice.{Wrote, over}
 use Rattle.write.specs.SpliceLaws.{splice-over, _then_, wrote-as, wrote-length}
 use Rattle.slice.specs.declared.Answer.{Answer}
@@ -37,51 +31,9 @@ module _ (s out : List ℕ) where
   refused-as : (r at : ℕ) (q : Answer) → sliceAnswer s (length out) ≡ refusal r at → q ≡ numbers (refusal r at) → SliceWritten s out out q
   refused-as r at q e h = record { answer = h ∙ sym (ap numbers e); buffer = sym (ap (λ a. over (a .bytes) out) e) }
 
-  pub header-refuses : (r : ℕ) → r ≡ headerReply 129 4096 s → (r ≡ 0 → ⊥) → (q : Answer) → q ≡ numbers (refusal r 0) → SliceWritten s out out q
-  unfolding sliceAnswer readTrace
-  header-refuses r e h q = refused-as r 0 q (ap (answered (length out)) (file-refused 129 4096 stmts s r (sym e) h))
-
--- ---- the records are read, with no symbol marked at first
-
-none-marked : (S : ℕ) (marks : List Bool) → ((x : ℕ) → inSet marks x ≡ false) → seen S S marks ≡ atFirst S
-none-marked S marks h = ap {B = Seen} (λ f. record { readable = f; least = S }) (fun-ext (λ y. ap (λ b. ltb y S || b) (h y) ∙ or-false (ltb y S)))
-
-module _ (s : List ℕ) (head : headerReply 129 4096 s ≡ 0) (off off′ : List ℕ) (marks marks′ : List Bool) (clear : (x : ℕ) → inSet marks x ≡ false) (r : Reading)
-    (w : ReadRecords s (headerInputs s) (headerCount s) off off′ marks marks′ r) where
-  abbrev one : Seen → List ℕ → Body Stmt
-  one = stmt (headerInputs s + 4096)
-
-  abbrev first : Seen
-  first = seen (headerInputs s) (headerInputs s) marks
-
-  body-is : stmts (headerInputs s) (headerCount s) (drop 6 s) ≡ stmtsFrom (headerInputs s) (headerCount s) first (drop 6 s)
-  body-is = ap (λ σ. stmtsFrom (headerInputs s) (headerCount s) σ (drop 6 s)) (sym (none-marked (headerInputs s) marks clear))
-
-  read : Walked (stmt (headerInputs s + 4096)) see s (headerCount s) first off off′ r
-  read = record { answer = w .answer; stored = w .stored }
-
-  pub offset-small : r .offset ≤ length s
-  offset-small = Reading.offset-small one see first 129 4096 stmts s head body-is off off′ r read
-
-  pub record-refuses : (out : List ℕ) → (r .reply ≡ 0 → ⊥) → (q : Answer) → q ≡ numbers (refusal (r .reply) (r .offset)) → SliceWritten s out out q
-  unfolding sliceAnswer readTrace
-  record-refuses out h q = refused-as s out (r .reply) (r .offset) q (ap (answered (length out)) (Reading.refuses one see first 129 4096 stmts s head body-is off off′ r read h))
-
-  module _ (h : r .reply ≡ 0) where
-    a : Reading.Accepts 129 4096 stmts s (r .count)
-    a = Reading.accepts one see first 129 4096 stmts s head body-is off off′ r read (stmt-low (headerInputs s + 4096)) h
-
-    pub is-read : readTrace s ≡ Accepted (headerInputs s) (listed (readTrace s))
-    unfolding readTrace
-    is-read = a .is ∙ ap (Accepted (headerInputs s)) (sym (ap listed (a .is)))
-
-    pub is-ready : headerCount s ≤ length off → Ready s off′ (headerCount s)
-    is-ready l = record {
-      accepted = ap isAccepted is-read;
-      count = refl;
-      room = Reading.room one see first 129 4096 stmts s head body-is off off′ r read a l;
-      stored = Reading.stored-at one see first 129 4096 stmts s head body-is off off′ r read a l;
-    }
+  pub trace-refuses : (r at : ℕ) → readTrace s ≡ Refused r at → (q : Answer) → q ≡ numbers (refusal r at) → SliceWritten s out out q
+  unfolding sliceAnswer
+  trace-refuses r at e q = refused-as r at q (ap (answered (length out)) e)
 
 -- ---- the slice is found
 

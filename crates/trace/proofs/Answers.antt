@@ -3,16 +3,15 @@ use Prim.Native.Nat.{ℕ, _+_, _≤_}
 use mathlib.Core.Path.{_≡_, refl, sym, ap, ap₂, _∙_, fun-ext}
 use mathlib.Core.Bool.{Bool, false, cond, _||_}
 use mathlib.Core.List.{List}
-use lib.ListN.{length, drop, replicate}
+use lib.ListN.{length, drop, getD}
 use lib.Dec.{eqb, ltb}
 use borrow.Author.Tests.{eq-eqb, ne-eqb}
 use Rattle.expr.specs.Lists.{or-false}
-use Rattle.expr.specs.Expr.{below, readable}
 use Rattle.expr.specs.Eval.{envOf}
 use Rattle.file.specs.declared.Reading.{Reading}
-use Rattle.file.specs.File.{headerInputs, headerCount, headerReply, Body, Accepted}
+use Rattle.file.specs.File.{headerInputs, headerCount, headerReply, Body, Input, Accepted, Refused}
 use Rattle.file.specs.Shown.{isAccepted, listed}
-use Rattle.file.specs.FileLaws.{same-everywhere, file-refused}
+use Rattle.file.specs.FileLaws.{file-refused}
 use Rattle.file.specs.WalkLaws.{Walked}
 use Rattle.file.specs.ReadingLaws as Reading
 use Rattle.trace.specs.Trace.{Stmt, Seen, see, atFirst, stmt, stmtsFrom, stmts, readTrace}
@@ -23,20 +22,21 @@ use Rattle.trace.specs.Shown.{seen, ReadRecords, Ready}
 
 -- ---- the header refuses
 
+pub header-refused : (s : List ℕ) (r : ℕ) → r ≡ headerReply 129 4096 s → (r ≡ 0 → ⊥) → readTrace s ≡ Refused r 0
+unfolding readTrace
+header-refused s r e h = file-refused 129 4096 stmts s r (sym e) h
+
 pub header-refuses : (s words : List ℕ) (r : ℕ) → r ≡ headerReply 129 4096 s → (r ≡ 0 → ⊥) → refusal r 0 ≡ judgeAnswer s words
-unfolding judgeAnswer readTrace
-header-refuses s words r e h = sym (ap (answered words) (file-refused 129 4096 stmts s r (sym e) h))
+unfolding judgeAnswer
+header-refuses s words r e h = sym (ap (answered words) (header-refused s r e h))
 
 -- ---- the records are read, with no symbol marked at first
 
-none-marked : (S k : ℕ) → seen S S (replicate k false) ≡ atFirst S
-none-marked S k = ap {B = Seen} (λ f. record { readable = f; least = S }) (fun-ext unmarked)
-  where
-    unmarked : (y : ℕ) → readable S (replicate k false) y ≡ below S y
-    unmarked y = ap (λ b. ltb y S || b) (same-everywhere k false y) ∙ or-false (ltb y S)
+none-marked : (S : ℕ) (marks : List Bool) → ((x : ℕ) → getD marks x false ≡ false) → seen S S marks ≡ atFirst S
+none-marked S marks h = ap {B = Seen} (λ f. record { readable = f; least = S }) (fun-ext (λ y. ap (λ b. ltb y S || b) (h y) ∙ or-false (ltb y S)))
 
-module _ (s : List ℕ) (head : headerReply 129 4096 s ≡ 0) (k : ℕ) (off off′ : List ℕ) (marks′ : List Bool) (r : Reading)
-    (w : ReadRecords s (headerInputs s) (headerCount s) off off′ (replicate k false) marks′ r) where
+module _ (s : List ℕ) (head : headerReply 129 4096 s ≡ 0) (off off′ : List ℕ) (marks marks′ : List Bool) (clear : (x : ℕ) → getD marks x false ≡ false) (r : Reading)
+    (w : ReadRecords s (headerInputs s) (headerCount s) off off′ marks marks′ r) where
   abbrev S : ℕ
   S = headerInputs s
 
@@ -44,10 +44,10 @@ module _ (s : List ℕ) (head : headerReply 129 4096 s ≡ 0) (k : ℕ) (off off
   one = stmt (headerInputs s + 4096)
 
   abbrev first : Seen
-  first = seen (headerInputs s) (headerInputs s) (replicate k false)
+  first = seen (headerInputs s) (headerInputs s) marks
 
   body-is : stmts (headerInputs s) (headerCount s) (drop 6 s) ≡ stmtsFrom (headerInputs s) (headerCount s) first (drop 6 s)
-  body-is = ap (λ σ. stmtsFrom (headerInputs s) (headerCount s) σ (drop 6 s)) (sym (none-marked S k))
+  body-is = ap (λ σ. stmtsFrom (headerInputs s) (headerCount s) σ (drop 6 s)) (sym (none-marked S marks clear))
 
   walked : Walked (stmt (headerInputs s + 4096)) see s (headerCount s) first off off′ r
   walked = record { answer = w .answer; stored = w .stored }
@@ -55,9 +55,13 @@ module _ (s : List ℕ) (head : headerReply 129 4096 s ≡ 0) (k : ℕ) (off off
   pub offset-small : r .offset ≤ length s
   offset-small = Reading.offset-small one see first 129 4096 stmts s head body-is off off′ r walked
 
+  pub record-refused : (r .reply ≡ 0 → ⊥) → readTrace s ≡ Refused (r .reply) (r .offset)
+  unfolding readTrace
+  record-refused h = Reading.refuses one see first 129 4096 stmts s head body-is off off′ r walked h
+
   pub record-refuses : (words : List ℕ) → (r .reply ≡ 0 → ⊥) → refusal (r .reply) (r .offset) ≡ judgeAnswer s words
-  unfolding judgeAnswer readTrace
-  record-refuses words h = sym (ap (answered words) (Reading.refuses one see first 129 4096 stmts s head body-is off off′ r walked h))
+  unfolding judgeAnswer
+  record-refuses words h = sym (ap (answered words) (record-refused h))
 
   module _ (h : r .reply ≡ 0) where
     a : Reading.Accepts 129 4096 stmts s (r .count)
@@ -69,6 +73,9 @@ module _ (s : List ℕ) (head : headerReply 129 4096 s ≡ 0) (k : ℕ) (off off
     is : readTrace s ≡ Accepted (headerInputs s) (a .things)
     unfolding readTrace
     is = a .is
+
+    pub trace-accepted : readTrace s ≡ Accepted (headerInputs s) (listed (readTrace s))
+    trace-accepted = is ∙ ap {B = Input Stmt} (Accepted (headerInputs s)) (sym (ap listed is))
 
     opened : (words : List ℕ) → judgeAnswer s words ≡ cond (eqb (length words) S) (answerOf (judge ts (envOf words))) (refusal 11 0)
     unfolding judgeAnswer

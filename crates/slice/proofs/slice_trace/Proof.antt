@@ -20,7 +20,8 @@ use Rattle.trace.specs.Trace.{readTrace}
 use Rattle.trace.specs.Shown.{ReadRecords, Ready}
 use Rattle.slice.specs.declared.Answer.{Answer}
 use Rattle.slice.specs.Answer.{refusal, numbers, SliceWritten}
-use Rattle.slice.proofs.Answers.{header-refuses, offset-small, record-refuses, is-read, is-ready, size-small, no-room, records-room, slice-written}
+use Rattle.trace.proofs.Answers.{header-refused, offset-small, record-refused, trace-accepted, is-ready}
+use Rattle.slice.proofs.Answers.{trace-refuses, size-small, no-room, records-room, slice-written}
 
 -- the bytes of the trace, and the header that they begin with
 bytes : (c : tie.After-shared-slice-known) → All Byte (c .before .args .trace .now)
@@ -73,13 +74,13 @@ module _ (c : tie.After-read-records) where
   small-offset = omega (arith, offset-small s h (replicate 4096 0) off marks marks′ (c .before .before .before .clear .ensures .1) r records, short 129 4096 s (bytes (c .before .before .before .before .before .before .before .before .before)) h)
 
   by-record : (r .reply ≡ 0 → ⊥) → (q : Answer) → q ≡ numbers (refusal (r .reply) (r .offset)) → SliceWritten s (c .before .before .before .before .before .before .before .before .before .before .args .out .now) (c .before .before .before .before .before .before .before .before .before .before .args .out .now) q
-  by-record = record-refuses s h (replicate 4096 0) off marks marks′ (c .before .before .before .clear .ensures .1) r records (c .before .before .before .before .before .before .before .before .before .before .args .out .now)
+  by-record z = trace-refuses s (c .before .before .before .before .before .before .before .before .before .before .args .out .now) (r .reply) (r .offset) (record-refused s h (replicate 4096 0) off marks marks′ (c .before .before .before .clear .ensures .1) r records z)
 
   module _ (z : r .reply ≡ 0) where
     accepted : readTrace (c .before .before .before .before .before .before .before .before .before .before .args .trace .now) ≡ Accepted (c .before .before .before .before .before .byte-at .result) (listed (readTrace (c .before .before .before .before .before .before .before .before .before .before .args .trace .now)))
     accepted =
         subst (λ S. readTrace s ≡ Accepted S (listed (readTrace s))) (sym inputs-are)
-        (is-read s h (replicate 4096 0) off marks marks′ (c .before .before .before .clear .ensures .1) r records z)
+        (trace-accepted s h (replicate 4096 0) off marks marks′ (c .before .before .before .clear .ensures .1) r records z)
 
     ready : Ready s off (c .before .before .before .before .two-at .result)
     ready =
@@ -104,7 +105,7 @@ refused-requires : tie.Need-refused-requires
 refused-requires c κs = search needs
 
 returns : tie.Need-returns
-returns c = let s = c .before .before .before .before .before in header-refuses (s .args .trace .now) (s .args .out .now) _ (c .before .before .header-reply .ensures) (c .before .if1 .taken) _ (c .refused .ensures)
+returns c = let s = c .before .before .before .before .before in trace-refuses (s .args .trace .now) (s .args .out .now) _ _ (header-refused (s .args .trace .now) _ (c .before .before .header-reply .ensures) (c .before .if1 .taken)) _ (c .refused .ensures)
 
 byte-at-requires : tie.Need-byte-at-requires
 byte-at-requires c κs = omega (arith, long c)

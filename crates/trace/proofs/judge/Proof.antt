@@ -4,7 +4,7 @@ use native.Mathlib.Omega.{arith}
 use mathlib.Core.Path.{_≡_, refl, sym, ap, _∙_, subst}
 use mathlib.Core.Bool.{Bool, false}
 use mathlib.Core.List.{List}
-use lib.ListN.{length, replicate, length-replicate}
+use lib.ListN.{length, getD, replicate, length-replicate}
 use lib.Seq.{length-sets}
 use Rattle.expr.specs.Lists.{All, all-at}
 use Rattle.expr.specs.Number.{Byte}
@@ -13,7 +13,7 @@ use Rattle.expr.specs.Eval.{envOf}
 use Rattle.file.specs.declared.Reading.{Reading}
 use Rattle.file.specs.File.{headerInputs, headerCount, headerReply}
 use Rattle.file.specs.Shown.{listed}
-use Rattle.file.specs.FileLaws.{header-is, copy-env}
+use Rattle.file.specs.FileLaws.{same-everywhere, header-is, copy-env}
 use Rattle.file.specs.ReadingLaws.{short}
 use Rattle.trace.specs.Trace.{readTrace}
 use Rattle.trace.specs.Judge.{judge}
@@ -65,26 +65,29 @@ module _ (c : tie.After-read-records) where
       subst (λ S. ReadRecords s S (headerCount s) (replicate 4096 0) off (replicate 4160 false) marks r) inputs-are
       (subst (λ n. ReadRecords s (c .before .before .before .before .byte-at .result) n (replicate 4096 0) off (replicate 4160 false) marks r) count-is (c .read-records .ensures))
 
+  clear : (x : ℕ) → getD (replicate 4160 false) x false ≡ false
+  clear = same-everywhere 4160 false
+
   few-inputs : c .before .before .before .before .byte-at .result ≤ 64
   few-inputs = omega (arith, inputs-are, header-is 129 4096 s h .inputs)
 
   small-offset : r .offset < 65536
-  small-offset = omega (arith, offset-small s h 4160 (replicate 4096 0) off marks r reads, short 129 4096 s (bytes (c .before .before .before .before .before .before .before .before)) h)
+  small-offset = omega (arith, offset-small s h (replicate 4096 0) off (replicate 4160 false) marks clear r reads, short 129 4096 s (bytes (c .before .before .before .before .before .before .before .before)) h)
 
   by-record : (r .reply ≡ 0 → ⊥) → refusal (r .reply) (r .offset) ≡ judgeAnswer s words
-  by-record z = record-refuses s h 4160 (replicate 4096 0) off marks r reads words z
+  by-record z = record-refuses s h (replicate 4096 0) off (replicate 4160 false) marks clear r reads words z
 
   module _ (z : r .reply ≡ 0) where
     by-valuation : (length words ≡ c .before .before .before .before .byte-at .result → ⊥) → refusal 11 0 ≡ judgeAnswer s words
-    by-valuation n = valuation-refused s h 4160 (replicate 4096 0) off marks r reads z words (λ e. n (e ∙ sym inputs-are))
+    by-valuation n = valuation-refused s h (replicate 4096 0) off (replicate 4160 false) marks clear r reads z words (λ e. n (e ∙ sym inputs-are))
 
     by-judging : length words ≡ c .before .before .before .before .byte-at .result → (cells : List ℕ) → envOf cells ≡ envOf words → answerOf (judge (listed (readTrace s)) (envOf cells)) ≡ judgeAnswer s words
-    by-judging e cells v = judged s h 4160 (replicate 4096 0) off marks r reads z words (e ∙ inputs-are) cells v
+    by-judging e cells v = judged s h (replicate 4096 0) off (replicate 4160 false) marks clear r reads z words (e ∙ inputs-are) cells v
 
     ready : Ready s off (c .before .before .before .two-at .result)
     ready =
         subst (λ n. Ready s off n) (sym count-is)
-        (is-ready s h 4160 (replicate 4096 0) off marks r reads z (omega (arith, header-is 129 4096 s h .count, length-replicate {A = ℕ} 4096 0)))
+        (is-ready s h (replicate 4096 0) off (replicate 4160 false) marks clear r reads z (omega (arith, header-is 129 4096 s h .count, length-replicate {A = ℕ} 4096 0)))
 
 header-reply-requires : tie.Need-header-reply-requires
 header-reply-requires c κs = search needs
