@@ -4,13 +4,13 @@ use std::fmt::{self, Debug, Display};
 
 use crate::archive;
 use crate::model::{self, JudgeAnswer, RunAnswer, SliceAnswer, TraceAnswer};
+use crate::program::{self, Printed};
 use crate::written::{lend, Written};
 
 pub trait Case: Clone + Display {
     type Answer: Debug + PartialEq;
 
     fn model(&self) -> Self::Answer;
-    fn archive(&self) -> Self::Answer;
 
     fn reply(answer: &Self::Answer) -> u32;
 
@@ -38,15 +38,17 @@ pub struct RunCase {
     pub valuation: Vec<u8>,
 }
 
+impl RunCase {
+    pub fn archive(&self) -> RunAnswer {
+        archive::run(&self.table, self.bound, &self.valuation)
+    }
+}
+
 impl Case for RunCase {
     type Answer = RunAnswer;
 
     fn model(&self) -> RunAnswer {
         model::run(&self.table, self.bound, &self.valuation)
-    }
-
-    fn archive(&self) -> RunAnswer {
-        archive::run(&self.table, self.bound, &self.valuation)
     }
 
     fn reply(answer: &RunAnswer) -> u32 {
@@ -82,15 +84,17 @@ pub struct JudgeCase {
     pub valuation: Vec<u8>,
 }
 
+impl JudgeCase {
+    pub fn archive(&self) -> JudgeAnswer {
+        archive::judge(&self.trace, &self.valuation)
+    }
+}
+
 impl Case for JudgeCase {
     type Answer = JudgeAnswer;
 
     fn model(&self) -> JudgeAnswer {
         model::judge(&self.trace, &self.valuation)
-    }
-
-    fn archive(&self) -> JudgeAnswer {
-        archive::judge(&self.trace, &self.valuation)
     }
 
     fn reply(answer: &JudgeAnswer) -> u32 {
@@ -122,6 +126,14 @@ pub struct TraceCase {
     pub room: usize,
 }
 
+impl TraceCase {
+    pub fn archive(&self) -> Written<TraceAnswer> {
+        let mut outs = lend(self.room);
+        let answer = archive::trace(&self.table, self.bound, &mut outs);
+        Written::new(answer, outs)
+    }
+}
+
 impl Case for TraceCase {
     type Answer = Written<TraceAnswer>;
 
@@ -129,12 +141,6 @@ impl Case for TraceCase {
         let mut outs = lend(self.room);
         let answer = model::trace(&self.table, self.bound, &mut outs[0]);
         Written::new::<1>(answer, outs)
-    }
-
-    fn archive(&self) -> Written<TraceAnswer> {
-        let mut outs = lend(self.room);
-        let answer = archive::trace(&self.table, self.bound, &mut outs);
-        Written::new(answer, outs)
     }
 
     fn reply(written: &Written<TraceAnswer>) -> u32 {
@@ -169,6 +175,14 @@ pub struct SliceCase {
     pub room: usize,
 }
 
+impl SliceCase {
+    pub fn archive(&self) -> Written<SliceAnswer> {
+        let mut outs = lend(self.room);
+        let answer = archive::slice(&self.trace, &mut outs);
+        Written::new(answer, outs)
+    }
+}
+
 impl Case for SliceCase {
     type Answer = Written<SliceAnswer>;
 
@@ -176,12 +190,6 @@ impl Case for SliceCase {
         let mut outs = lend(self.room);
         let answer = model::slice(&self.trace, &mut outs[0]);
         Written::new::<1>(answer, outs)
-    }
-
-    fn archive(&self) -> Written<SliceAnswer> {
-        let mut outs = lend(self.room);
-        let answer = archive::slice(&self.trace, &mut outs);
-        Written::new(answer, outs)
     }
 
     fn reply(written: &Written<SliceAnswer>) -> u32 {
@@ -202,6 +210,57 @@ impl Display for SliceCase {
         writeln!(f, "let trace = {};", array(&self.trace))?;
         writeln!(f, "let room = {};", self.room)?;
         write!(f, "trace in hex: {}", hex(&self.trace))
+    }
+}
+
+#[derive(Clone, Debug, PartialEq, Eq)]
+pub struct PrintCase {
+    /// One byte; without it there is no input at all.
+    pub bound: Option<u64>,
+    pub table: Vec<u8>,
+}
+
+impl PrintCase {
+    pub fn program(&self) -> Printed {
+        program::print_slice(&self.input())
+    }
+
+    fn input(&self) -> Vec<u8> {
+        let Some(bound) = self.bound else {
+            return Vec::new();
+        };
+        let bound = u8::try_from(bound).expect("a bound of one byte");
+        [&[bound], &self.table[..]].concat()
+    }
+}
+
+impl Case for PrintCase {
+    type Answer = Printed;
+
+    fn model(&self) -> Printed {
+        Printed::just(model::print(&self.input()))
+    }
+
+    fn reply(printed: &Printed) -> u32 {
+        let text = String::from_utf8_lossy(&printed.text);
+        let refusal = text.strip_prefix("refused ").and_then(|refusal| refusal.split(' ').next());
+        refusal.map_or(0, |number| number.parse().expect("a refusal's number"))
+    }
+
+    fn file_mut(&mut self) -> &mut Vec<u8> {
+        &mut self.table
+    }
+
+    fn bound_mut(&mut self) -> Option<&mut u64> {
+        self.bound.as_mut()
+    }
+}
+
+impl Display for PrintCase {
+    fn fmt(&self, f: &mut fmt::Formatter) -> fmt::Result {
+        writeln!(f, "let bound = {:?};", self.bound)?;
+        writeln!(f, "let table = {};", array(&self.table))?;
+        write!(f, "input in hex: {}", hex(&self.input()))
     }
 }
 

@@ -1,6 +1,7 @@
 //! Cases whose answers stand in document 01, or follow from its sentences at a glance.
 
 pub mod judging;
+pub mod printing;
 pub mod running;
 pub mod slicing;
 pub mod traces;

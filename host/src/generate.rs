@@ -10,7 +10,7 @@ mod rules;
 mod traces;
 mod writing;
 
-pub use writing::{slice_case, sliced_judge_case, trace_case};
+pub use writing::{print_case, slice_case, sliced_judge_case, trace_case};
 
 use crate::case::{JudgeCase, RunCase};
 use crate::encoding;

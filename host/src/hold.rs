@@ -1,4 +1,4 @@
-//! Holds calls to known answers, and the archive to the model on generated cases.
+//! Holds calls to known answers, and to the model on generated cases.
 //!
 //! The variable CASES sets how many are generated, in place of a test's own count, and SEED where they begin.
 
@@ -36,12 +36,13 @@ pub fn hold_features<C: Case>(
     }
 }
 
-pub fn hold_archive_to_model<C: Case>(count: u64, generate: impl FnMut(u64) -> C) {
-    let differs = |case: &C| case.archive() != case.model();
+/// Asks of a call the model's answer to every generated case.
+pub fn hold_to_model<C: Case>(call: fn(&C) -> C::Answer, count: u64, generate: impl FnMut(u64) -> C) {
+    let differs = |case: &C| call(case) != case.model();
     if let Some((seed, small)) = first_failure(count, generate, differs) {
         panic!(
-            "seed {seed} gives a case where archive and model differ; made smaller:\n{small}\narchive: {:?}\nmodel:   {:?}",
-            small.archive(),
+            "seed {seed} gives a case where call and model differ; made smaller:\n{small}\ncall:  {:?}\nmodel: {:?}",
+            call(&small),
             small.model(),
         );
     }

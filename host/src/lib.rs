@@ -1,4 +1,4 @@
-//! Holds libkadvitul.a to a model written from document 01 alone, which shares nothing with the library.
+//! Holds libkadvitul.a and the slice printer to a model written from document 01 alone, which shares nothing with them.
 
 pub mod agreement;
 pub mod archive;
@@ -10,6 +10,7 @@ pub mod hold;
 pub mod listing;
 pub mod model;
 pub mod parts;
+pub mod program;
 pub mod shrink;
 pub mod statement;
 pub mod written;

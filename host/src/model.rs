@@ -1,9 +1,10 @@
 //! What document 01 says of tables and traces, in plain Rust: checked once, then run, unwound, judged or sliced in
-//! place.
+//! place; and how a slice is printed.
 
 mod expression;
 mod file;
 mod judging;
+mod printing;
 mod running;
 mod slicing;
 mod table;
@@ -16,6 +17,7 @@ use running::Outcome;
 use slicing::Slice;
 use table::{Table, INSTRUCTION_LIMIT};
 use trace::{Trace, STATEMENT_LIMIT, SYMBOL_LIMIT};
+use unwinding::LENGTH_LIMIT;
 
 /// The five numbers of a run. A refusal has all but the first two 0; the verdict is 0 for safe, 1 for unsafe.
 #[derive(Clone, Copy, Debug, Default, PartialEq, Eq)]
@@ -129,6 +131,22 @@ fn accept_and_slice(bytes: &[u8], out: &mut [u8]) -> Result<(usize, u64), Refusa
     let slice = Slice::of(&trace, &mut offsets);
     slice.write(&trace, take_room(out, slice.length)?);
     Ok((slice.length, slice.mask))
+}
+
+/// The text that the slice printer gives for its input: a byte for the bound, then a table.
+pub fn print(input: &[u8]) -> String {
+    accept_and_print(input).unwrap_or_else(|refusal| printing::refusal_text(&refusal))
+}
+
+fn accept_and_print(input: &[u8]) -> Result<String, Refusal> {
+    let Some((&bound, table)) = input.split_first() else {
+        return Err(Refusal::new(1, 0));
+    };
+    let mut trace = vec![0; LENGTH_LIMIT];
+    let trace_length = accept_and_trace(table, bound.into(), &mut trace)?;
+    let mut slice = vec![0; trace_length];
+    let (slice_length, _) = accept_and_slice(&trace[..trace_length], &mut slice)?;
+    Ok(printing::slice_text(&Trace::read(&slice[..slice_length])?))
 }
 
 /// A bound of up to 255.

@@ -4,7 +4,7 @@ use host::case::{Case, JudgeCase};
 use host::cases::judging as cases;
 use host::encoding;
 use host::generate;
-use host::hold::{hold_archive_to_model, hold_features, hold_known};
+use host::hold::{hold_features, hold_known, hold_to_model};
 use host::model::{self, JudgeAnswer};
 use host::parts::Parts;
 
@@ -106,7 +106,7 @@ fn the_generated_cases_reach_every_reply_both_verdicts_and_what_they_hide() {
 
 #[test]
 fn the_archive_gives_the_models_answer_on_every_case() {
-    hold_archive_to_model(CASES, generate::judge_case);
+    hold_to_model(JudgeCase::archive, CASES, generate::judge_case);
 }
 
 /// What a case shows, in the words of `DUE`.

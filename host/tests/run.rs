@@ -3,7 +3,7 @@
 use host::case::{Case, RunCase};
 use host::cases::running as cases;
 use host::generate;
-use host::hold::{hold_archive_to_model, hold_features, hold_known};
+use host::hold::{hold_features, hold_known, hold_to_model};
 use host::model::RunAnswer;
 
 /// How many cases are generated for a test.
@@ -106,7 +106,7 @@ fn the_generated_cases_reach_every_reply_both_verdicts_and_later_copies() {
 
 #[test]
 fn the_archive_gives_the_models_answer_on_every_case() {
-    hold_archive_to_model(CASES, generate::run_case);
+    hold_to_model(RunCase::archive, CASES, generate::run_case);
 }
 
 /// What a case shows, in the words of `DUE`.

@@ -5,7 +5,7 @@ use host::archive;
 use host::case::{Case, JudgeCase, SliceCase};
 use host::cases::{slicing as cases, traces};
 use host::generate;
-use host::hold::{hold_archive_to_model, hold_features, hold_known, hold_property};
+use host::hold::{hold_features, hold_known, hold_property, hold_to_model};
 use host::model::{self, JudgeAnswer, SliceAnswer};
 use host::parts::Parts;
 use host::statement::assign;
@@ -131,7 +131,7 @@ fn the_generated_cases_reach_every_reply_every_kind_of_room_and_what_is_kept() {
 
 #[test]
 fn the_archive_gives_the_models_answer_and_bytes_on_every_case() {
-    hold_archive_to_model(CASES, generate::slice_case);
+    hold_to_model(SliceCase::archive, CASES, generate::slice_case);
 }
 
 #[test]

@@ -4,7 +4,7 @@ use host::agreement::{self, archive_trace};
 use host::case::{Case, RunCase, TraceCase};
 use host::cases::{running, unwinding as cases};
 use host::generate;
-use host::hold::{hold_archive_to_model, hold_features, hold_known, hold_property};
+use host::hold::{hold_features, hold_known, hold_property, hold_to_model};
 use host::model::{self, RunAnswer, TraceAnswer};
 use host::written::{fit, whole, Written, LENGTH_LIMIT};
 
@@ -133,7 +133,7 @@ fn the_generated_cases_reach_every_reply_every_kind_of_room_and_both_limits() {
 
 #[test]
 fn the_archive_gives_the_models_answer_and_bytes_on_every_case() {
-    hold_archive_to_model(CASES, generate::trace_case);
+    hold_to_model(TraceCase::archive, CASES, generate::trace_case);
 }
 
 #[test]

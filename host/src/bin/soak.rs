@@ -4,8 +4,8 @@
 use std::collections::BTreeMap;
 use std::time::{Duration, Instant};
 
-use host::case::Case;
-use host::hold::{case_count, first_seed, hold_archive_to_model, hold_property};
+use host::case::{Case, JudgeCase, RunCase, SliceCase, TraceCase};
+use host::hold::{case_count, first_seed, hold_property, hold_to_model};
 use host::{agreement, generate};
 
 /// How many cases of each are generated.
@@ -16,10 +16,10 @@ const INTERVAL: Duration = Duration::from_secs(5);
 fn main() {
     println!("soak: {} cases of each, from seed {}", case_count(CASES), first_seed());
     let tallies = [
-        soak_call("run", generate::run_case),
-        soak_call("judge", generate::judge_case),
-        soak_call("trace", generate::trace_case),
-        soak_call("slice", generate::slice_case),
+        soak_call("run", RunCase::archive, generate::run_case),
+        soak_call("judge", JudgeCase::archive, generate::judge_case),
+        soak_call("trace", TraceCase::archive, generate::trace_case),
+        soak_call("slice", SliceCase::archive, generate::slice_case),
         soak_demand3(),
     ];
     for tally in tallies {
@@ -27,9 +27,9 @@ fn main() {
     }
 }
 
-fn soak_call<C: Case>(name: &'static str, generate: fn(u64) -> C) -> Tally {
+fn soak_call<C: Case>(name: &'static str, call: fn(&C) -> C::Answer, generate: fn(u64) -> C) -> Tally {
     let mut tally = Tally::new(name);
-    hold_archive_to_model(CASES, |seed| tally.count(generate(seed)));
+    hold_to_model(call, CASES, |seed| tally.count(generate(seed)));
     tally
 }
 

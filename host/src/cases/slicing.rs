@@ -1,6 +1,6 @@
 //! Slicing a trace: document 01's marked cases, limits, sentences and refusals.
 
-use super::{judging, traces, unwinding, Known, CONSTANT_1};
+use super::{judging, printing, traces, unwinding, Known, CONSTANT_1};
 use crate::case::SliceCase;
 use crate::encoding;
 use crate::listing;
@@ -13,14 +13,6 @@ type KnownSlice = Known<SliceCase>;
 /// The room behind a slice, or where there is none.
 const SPARE_ROOM: usize = 100;
 
-/// Document 01, "A small rule, worked": what the slice printer gives for K = 0, without its first line.
-const SMALL_RULE_0: [&str; 4] = [
-    "65535 assign s1 0",
-    "0 assign s2 s1 0 ule s0 zero 3 s1 ite s1 ite",
-    "2 assume s2 2 ule 1 zero 1 ite",
-    "3 assert s2 3 ule 0 1 ite",
-];
-
 /// The marked cases that concern slicing.
 pub fn marked() -> Vec<KnownSlice> {
     vec![
@@ -31,7 +23,8 @@ pub fn marked() -> Vec<KnownSlice> {
 }
 
 pub fn small_rule_0() -> Vec<u8> {
-    listing::trace(1, &SMALL_RULE_0)
+    let lines: Vec<&str> = printing::SMALL_RULE_0.lines().skip(1).collect();
+    listing::trace(1, &lines)
 }
 
 /// The limits of traces.

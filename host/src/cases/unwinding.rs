@@ -54,23 +54,29 @@ pub fn limits() -> Vec<KnownTrace> {
     ]
 }
 
-/// The trace of 1,024 Asserts of symbol 0, in which only exits move control.
+/// The trace of 1,024 Asserts of symbol 0.
 pub fn thousand_asserts(bound: u32) -> Vec<u8> {
-    let end = (bound + 1) * 1025;
+    trace(1, &assert_lines(1024, bound))
+}
+
+/// The trace of so many Asserts of symbol 0, in which only exits move control.
+pub fn assert_lines(count: u32, bound: u32) -> Vec<String> {
+    let period = count + 1;
+    let end = (bound + 1) * period;
     let mut lines = vec!["65535 assign s1 0".into()];
     for place in 0..end {
-        let control = 1 + place / 1025;
-        lines.push(if place % 1025 < 1024 {
+        let control = 1 + place / period;
+        lines.push(if place % period < count {
             format!("{place} assert s{control} {place} ule s0 1 ite")
         } else {
             format!("{place} assign s{} s{control} {place} ule {end} s{control} ite", control + 1)
         });
     }
-    trace(1, &lines)
+    lines
 }
 
 /// An Assert of so many bytes of expression: 0, negated again and again.
-fn padded_assert(length: usize) -> Vec<u8> {
+pub fn padded_assert(length: usize) -> Vec<u8> {
     [&[3], &CONSTANT_0[..], &vec![NEG; length - 5]].concat()
 }
 

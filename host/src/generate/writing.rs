@@ -1,10 +1,10 @@
-//! Cases of writing: tables to unwind, traces to slice, written or not, and rooms around what they need.
+//! Cases of writing: tables to unwind or to print, traces to slice, written or not, and rooms around what they need.
 
 use super::draft::Draft;
 use super::expressions::NOT;
 use super::random::Random;
 use super::{any_bound, faults, lay_out, rules, traces, valuation};
-use crate::case::{JudgeCase, SliceCase, TraceCase};
+use crate::case::{JudgeCase, PrintCase, SliceCase, TraceCase};
 use crate::encoding::Form;
 use crate::model;
 use crate::written::{whole, LENGTH_LIMIT};
@@ -15,6 +15,13 @@ pub fn trace_case(seed: u64) -> TraceCase {
     let table = lay_out(&mut random, rule);
     let length = written_trace(&table, bound).len();
     TraceCase { table, bound, room: room(&mut random, length) }
+}
+
+/// As those of writing a trace, under a bound of one byte.
+pub fn print_case(seed: u64) -> PrintCase {
+    let mut random = Random::new(seed);
+    let (rule, bound) = rule_and_bound(&mut random);
+    PrintCase { bound: Some(bound % 256), table: lay_out(&mut random, rule) }
 }
 
 pub fn slice_case(seed: u64) -> SliceCase {

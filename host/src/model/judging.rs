@@ -8,8 +8,8 @@ pub fn judge(trace: &Trace, cells: &mut [u32; SYMBOL_LIMIT]) -> Option<u16> {
     for record in trace.records() {
         let word = evaluate::<InTrace>(record.expression, cells);
         match record.action {
-            Statement::Assign { symbol } => cells[usize::from(symbol)] = word,
-            Statement::Assume if word == 0 => return None,
+            Statement::Assign { symbol, .. } => cells[usize::from(symbol)] = word,
+            Statement::Assume { .. } if word == 0 => return None,
             Statement::Assert { place } if word == 0 => return Some(place),
             _ => {}
         }

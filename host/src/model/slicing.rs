@@ -27,8 +27,8 @@ impl<'a> Slice<'a> {
         for i in (0..offsets.len()).rev() {
             let record = trace.record(offsets[i]);
             let is_kept = match record.action {
-                Statement::Assign { symbol } => needed[usize::from(symbol)],
-                Statement::Assume => assert_follows,
+                Statement::Assign { symbol, .. } => needed[usize::from(symbol)],
+                Statement::Assume { .. } => assert_follows,
                 Statement::Assert { .. } => {
                     assert_follows = true;
                     true

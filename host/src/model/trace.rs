@@ -42,23 +42,22 @@ impl<'a> Trace<'a> {
 }
 
 pub enum Statement {
-    Assign { symbol: u16 },
-    Assume,
+    Assign { place: u16, symbol: u16 },
+    Assume { place: u16 },
     Assert { place: u16 },
 }
 
 impl Action for Statement {
     fn split(body: &[u8]) -> Option<(Statement, &[u8])> {
-        match *body {
-            [ASSIGN, _, _, high, low, ref expression @ ..] => {
-                let symbol = u16::from_be_bytes([high, low]);
-                Some((Statement::Assign { symbol }, expression))
+        let (&[kind, high, low], rest) = body.split_first_chunk()?;
+        let place = u16::from_be_bytes([high, low]);
+        match kind {
+            ASSIGN => {
+                let (&symbol, expression) = rest.split_first_chunk()?;
+                Some((Statement::Assign { place, symbol: u16::from_be_bytes(symbol) }, expression))
             }
-            [ASSUME, _, _, ref expression @ ..] => Some((Statement::Assume, expression)),
-            [ASSERT, high, low, ref expression @ ..] => {
-                let place = u16::from_be_bytes([high, low]);
-                Some((Statement::Assert { place }, expression))
-            }
+            ASSUME => Some((Statement::Assume { place }, rest)),
+            ASSERT => Some((Statement::Assert { place }, rest)),
             _ => None,
         }
     }
@@ -86,8 +85,8 @@ impl Rules for TraceRules {
 
     fn allow(&self, statement: &Statement) -> bool {
         match *statement {
-            Statement::Assign { symbol } => self.assignable.contains(&symbol.into()),
-            Statement::Assume | Statement::Assert { .. } => true,
+            Statement::Assign { symbol, .. } => self.assignable.contains(&symbol.into()),
+            Statement::Assume { .. } | Statement::Assert { .. } => true,
         }
     }
 
@@ -96,7 +95,7 @@ impl Rules for TraceRules {
     }
 
     fn note(&mut self, _: usize, _: usize, statement: Statement) {
-        if let Statement::Assign { symbol } = statement {
+        if let Statement::Assign { symbol, .. } = statement {
             let symbol = usize::from(symbol);
             self.readable[symbol] = true;
             self.assignable.start = symbol + 1;

@@ -8,7 +8,7 @@ use super::table::{Instruction, Table};
 use super::trace::{self, ASSERT, ASSIGN, ASSUME, STATEMENT_LIMIT};
 use super::writer::Writer;
 
-const LENGTH_LIMIT: usize = 65_535;
+pub const LENGTH_LIMIT: usize = 65_535;
 const OPENING_PLACE: u16 = 65_535;
 
 /// The lengths of tokens, and of a record before its expression.

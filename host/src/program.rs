@@ -1,0 +1,54 @@
+//! The slice printer, run as the program that `rt check print_slice` builds.
+
+use std::fmt::{self, Debug};
+use std::io::{ErrorKind, Write};
+use std::process::{ChildStdin, Command, Stdio};
+use std::thread;
+
+const PROGRAM: &str = concat!(env!("CARGO_MANIFEST_DIR"), "/../target/bin/print_slice");
+
+/// What the program leaves.
+#[derive(Clone, PartialEq, Eq)]
+pub struct Printed {
+    /// Its standard output.
+    pub text: Vec<u8>,
+    /// None where a signal ended it.
+    pub exit_status: Option<i32>,
+    pub is_error_empty: bool,
+}
+
+impl Printed {
+    /// A text, and no complaint in any other way.
+    pub fn just(text: impl Into<Vec<u8>>) -> Printed {
+        Printed { text: text.into(), exit_status: Some(0), is_error_empty: true }
+    }
+}
+
+impl Debug for Printed {
+    fn fmt(&self, f: &mut fmt::Formatter) -> fmt::Result {
+        let error = if self.is_error_empty { "nothing" } else { "something" };
+        writeln!(f, "exit status {:?}, {error} on standard error, and", self.exit_status)?;
+        write!(f, "{}", String::from_utf8_lossy(&self.text))
+    }
+}
+
+pub fn print_slice(input: &[u8]) -> Printed {
+    let mut command = Command::new(PROGRAM);
+    command.stdin(Stdio::piped()).stdout(Stdio::piped()).stderr(Stdio::piped());
+    let mut program =
+        command.spawn().unwrap_or_else(|error| panic!("{PROGRAM}: {error}; run `rt check print_slice` first"));
+    let stdin = program.stdin.take().expect("standard input is piped");
+    let output = thread::scope(|scope| {
+        scope.spawn(|| feed(stdin, input));
+        program.wait_with_output().expect("the output can be read")
+    });
+    Printed { text: output.stdout, exit_status: output.status.code(), is_error_empty: output.stderr.is_empty() }
+}
+
+/// Writes all, unless the program ends without reading so far: it may, where a table is too long.
+fn feed(mut stdin: ChildStdin, input: &[u8]) {
+    match stdin.write_all(input) {
+        Err(error) if error.kind() != ErrorKind::BrokenPipe => panic!("standard input: {error}"),
+        _ => {}
+    }
+}

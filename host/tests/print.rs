@@ -1,0 +1,183 @@
+//! Printing a slice: document 01's cases, and the program against the model on generated ones and against the archive.
+
+use std::collections::BTreeSet;
+
+use host::agreement::{archive_slice, archive_trace};
+use host::case::{Case, PrintCase};
+use host::cases::printing as cases;
+use host::generate;
+use host::hold::{hold_features, hold_known, hold_property, hold_to_model};
+use host::listing;
+use host::program::Printed;
+
+/// How many cases are generated for a test; each starts the program.
+const CASES: u64 = 3_000;
+
+/// What generated cases have to show, one in so many. No byte K is refused 8.
+const DUE: [(&str, u64); 36] = [
+    ("refused 1", 500),
+    ("refused 2", 500),
+    ("refused 3", 500),
+    ("refused 4", 500),
+    ("refused 5", 500),
+    ("refused 6", 500),
+    ("refused 7", 500),
+    ("refused 9", 500),
+    ("printed", 10),
+    ("printed, assign", 10),
+    ("printed, assume", 10),
+    ("printed, assert", 10),
+    ("printed, nothing kept", 100),
+    ("printed, K: 0", 50),
+    ("printed, K: 1 to 9", 50),
+    ("printed, K: 10 to 255", 50),
+    ("printed, 10,000 bytes or more", 50),
+    ("printed, 100,000 bytes or more", 1_000),
+    ("printed, not", 50),
+    ("printed, neg", 50),
+    ("printed, zero", 50),
+    ("printed, add", 50),
+    ("printed, sub", 50),
+    ("printed, mul", 50),
+    ("printed, udiv", 50),
+    ("printed, urem", 50),
+    ("printed, and", 50),
+    ("printed, or", 50),
+    ("printed, xor", 50),
+    ("printed, shl", 50),
+    ("printed, lshr", 50),
+    ("printed, equal", 50),
+    ("printed, ult", 50),
+    ("printed, ule", 50),
+    ("printed, slt", 50),
+    ("printed, ite", 50),
+];
+
+/// A text has no more bytes than this, six for each of a trace's.
+const TEXT_LIMIT: usize = 393_210;
+
+#[test]
+fn the_marked_cases_hold_in_the_model() {
+    hold_known(PrintCase::model, cases::marked());
+}
+
+#[test]
+fn the_marked_cases_hold_in_the_program() {
+    hold_known(PrintCase::program, cases::marked());
+}
+
+#[test]
+fn the_sentences_on_words_hold_in_the_model() {
+    hold_known(PrintCase::model, cases::words());
+}
+
+#[test]
+fn the_sentences_on_words_hold_in_the_program() {
+    hold_known(PrintCase::program, cases::words());
+}
+
+#[test]
+fn the_sentences_on_lines_hold_in_the_model() {
+    hold_known(PrintCase::model, cases::lines());
+}
+
+#[test]
+fn the_sentences_on_lines_hold_in_the_program() {
+    hold_known(PrintCase::program, cases::lines());
+}
+
+#[test]
+fn the_sentences_on_refusals_hold_in_the_model() {
+    hold_known(PrintCase::model, cases::refusals());
+}
+
+#[test]
+fn the_sentences_on_refusals_hold_in_the_program() {
+    hold_known(PrintCase::program, cases::refusals());
+}
+
+#[test]
+fn the_longest_tables_are_refused_by_the_model_as_others_are() {
+    hold_known(PrintCase::model, cases::longest_tables());
+}
+
+#[test]
+fn the_longest_tables_are_refused_by_the_program_as_others_are() {
+    hold_known(PrintCase::program, cases::longest_tables());
+}
+
+#[test]
+fn longer_tables_are_refused_2_or_3_by_the_model() {
+    hold_known(PrintCase::model, cases::longer_tables());
+}
+
+#[test]
+fn longer_tables_are_refused_2_or_3_by_the_program() {
+    hold_known(PrintCase::program, cases::longer_tables());
+}
+
+#[test]
+fn the_longest_text_known_is_327416_bytes_long() {
+    let length = cases::longest().case.program().text.len();
+    println!("{length} bytes of {TEXT_LIMIT}, {:.1} %", 100.0 * length as f64 / TEXT_LIMIT as f64);
+    assert_eq!(length, 327_416);
+}
+
+#[test]
+fn the_generated_cases_reach_every_refusal_that_can_be_every_kind_and_every_name() {
+    hold_features(CASES, generate::print_case, features, &DUE);
+}
+
+#[test]
+fn the_program_prints_the_models_text_on_every_case() {
+    hold_to_model(PrintCase::program, CASES, generate::print_case);
+}
+
+#[test]
+fn what_the_program_prints_read_back_is_the_slice_that_the_archive_writes() {
+    hold_property(CASES, generate::print_case, |case| {
+        let trace = archive_trace(&case.table, case.bound.expect("generated cases have a bound"));
+        trace.is_empty() || is_text_of(&archive_slice(&trace), &case.program().text)
+    });
+}
+
+fn is_text_of(slice: &[u8], text: &[u8]) -> bool {
+    let text = String::from_utf8_lossy(text);
+    let lines: Vec<&str> = text.lines().collect();
+    let Some((first, statements)) = lines.split_first() else {
+        return false;
+    };
+    let count = u16::from_be_bytes([slice[4], slice[5]]);
+    *first == format!("inputs {} statements {count}", slice[3]) && listing::trace(slice[3], statements) == slice
+}
+
+/// What a case shows, in the words of `DUE`.
+fn features(case: &PrintCase, printed: Printed) -> Vec<String> {
+    let reply = PrintCase::reply(&printed);
+    if reply != 0 {
+        return vec![format!("refused {reply}")];
+    }
+    let text = String::from_utf8(printed.text).expect("a text");
+    let more = printed_features(case, &text).into_iter().map(|feature| format!("printed, {feature}")).collect();
+    [vec!["printed".into()], more].concat()
+}
+
+fn printed_features(case: &PrintCase, text: &str) -> Vec<String> {
+    let has_instructions = case.table[4..6] != [0, 0];
+    let shown = [
+        (text.lines().count() == 1 && has_instructions, "nothing kept"),
+        (text.len() >= 10_000, "10,000 bytes or more"),
+        (text.len() >= 100_000, "100,000 bytes or more"),
+        (case.bound == Some(0), "K: 0"),
+        (matches!(case.bound, Some(1..=9)), "K: 1 to 9"),
+        (matches!(case.bound, Some(10..=255)), "K: 10 to 255"),
+    ];
+    let shown = shown.into_iter().filter(|(is_shown, _)| *is_shown).map(|(_, feature)| feature);
+    shown.chain(names(text)).map(Into::into).collect()
+}
+
+/// The words of a text that are no numbers and no symbols, each once.
+fn names(text: &str) -> BTreeSet<&str> {
+    let is_name = |word: &&str| !word.ends_with(|end: char| end.is_ascii_digit());
+    text.lines().skip(1).flat_map(|line| line.split(' ')).filter(is_name).collect()
+}
