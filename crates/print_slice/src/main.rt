@@ -5,5 +5,8 @@ fn main() {
     let mut text: [u8; 393210] = [0; 393210];
     let n = io::read_full(0, &mut input);
     let m = show::show_slice(&input[..n], &mut text);
-    io::write_all(1, &text[..m]);
+    let written = io::write_all(1, &text[..m]);
+    if !written {
+        io::write_all(2, b"print_slice: standard output could not be written\n");
+    }
 }
