@@ -12,11 +12,12 @@ use lib.Seq.{getD-set-same, getD-set-other}
 use lib.Dec.{ltb, eqb}
 use borrow.Author.Tests.{ltb-true, ltb-false, lt-ltb, le-ltb, eqb-true, ne-eqb}
 use Rattle.expr.specs.declared.File.{File}
+use Rattle.expr.specs.declared.File.the-variants.{Table}
 use Rattle.expr.specs.declared.accept.After.the-variants.{Stop, Next}
 use Rattle.expr.specs.Word.{Unary, Binary, choice}
 use Rattle.expr.specs.Number.{numberOf}
-use Rattle.expr.specs.Token.{Token, Const, Symbol, Un, Bin, Ite, symbolCode, symbolWidth, operandCount, operator, readToken}
-use Rattle.expr.specs.TokenLaws.{operator-is, operator-ite, operator-count}
+use Rattle.expr.specs.Token.{Token, Const, Symbol, Un, Bin, Ite, code, symbolCode, symbolWidth, operandCount, operator, readToken}
+use Rattle.expr.specs.TokenLaws.{IsOperator, operator-is, operator-ite, operator-count}
 use Rattle.expr.specs.Expr.{depthLimit, pops, after, fits}
 use Rattle.expr.specs.ExprLaws.{depthLimit-le, Fits, fits-is}
 use Rattle.expr.specs.Eval.{Env, step, pushUnary, pushBinary, pushIte}
@@ -154,10 +155,6 @@ any-env ρ b w w′ d r h s = go (operator b) h s
     go (some (Bin u)) h s = record { deep = s .deep; stack = s .stack; long = s .long }
     go (some Ite) h s = record { deep = s .deep; stack = s .stack; long = s .long }
 
-pub pops-none : (b : ℕ) → operator b ≡ none → popsOf b ≡ 0
-unfolding popsOf
-pops-none b e = ap popped e
-
 -- ---- a token that may stand at an offset
 
 module _ (F : File) (may : ℕ → Bool) (d : ℕ) (o : Option Token) where
@@ -184,6 +181,10 @@ pub record Reads (F : File) (may : ℕ → Bool) (d : ℕ) (s : List ℕ) (i : �
 
 pub record Operator (F : File) (d : ℕ) (s : List ℕ) (i : ℕ) : Type 0 where
   pub is : readToken F (drop i s) ≡ operator (getD s i 0)
+  pub token : Token
+  pub named : operator (getD s i 0) ≡ some token
+  pub coded : (getD s i 0 ≡ code Table token) × IsOperator token
+  pub one-byte : 1 ≡ sizeOf F (readToken F (drop i s))
   pub pops-some : 0 < popsOf (getD s i 0)
   pub enough : popsOf (getD s i 0) ≤ d
 
@@ -221,7 +222,16 @@ module _ (F : File) (may : ℕ → Bool) (d : ℕ) (s : List ℕ) (i : ℕ) (h :
       go (some t) e =
           let f = standing F may d (readToken F (drop i s)) q t (r ∙ e) in
           let p = pops-of (getD s i 0) t e in
-          record { is = r; pops-some = omega (arith, operator-pops t (operator-is (getD s i 0) t e .1)); enough = omega (arith, f .enough) }
+          let c = operator-is (getD s i 0) t e in
+          record {
+            is = r;
+            token = t;
+            named = e;
+            coded = c;
+            one-byte = sym (ap (sizeOf F) (r ∙ e) ∙ ap suc (operator-count F t (c .1)));
+            pops-some = omega (arith, operator-pops t (c .1));
+            enough = omega (arith, f .enough);
+          }
 
 -- the token at offset i makes the words w′, with r held, of w with d held, and takes m bytes
 module _ (F : File) (ρ : Env) (d : ℕ) (s : List ℕ) (i : ℕ) (w w′ : List ℕ) (r : ℕ) (l : length w ≡ 17) where
@@ -246,8 +256,4 @@ module _ (F : File) (ρ : Env) (d : ℕ) (s : List ℕ) (i : ℕ) (w w′ : List
       (add-one (symbolWidth F), leaf (Symbol (numberOf (symbolWidth F) (drop (i + 1) s))) x refl (c .room) e p (ap {B = List ℕ} (λ v. v ∷ stackOf w d) (q ∙ ap ρ n)))
 
   pub operator-steps : Operator F d s i → Stepped nowhere (operator (getD s i 0)) w d w′ r → Done 1 (readToken F (drop i s))
-  operator-steps c t = subst (Done 1) (sym (c .is)) (size (operator (getD s i 0)) refl, any-env ρ (getD s i 0) w w′ d r (c .pops-some) t)
-    where
-      size : (o : Option Token) → operator (getD s i 0) ≡ o → 1 ≡ sizeOf F o
-      size none e = absurd (omega (arith, c .pops-some, pops-none (getD s i 0) e))
-      size (some t) e = ap suc (sym (operator-count F t (operator-is (getD s i 0) t e .1)))
+  operator-steps c t = (c .one-byte, subst (λ o. Stepped ρ o w d w′ r) (sym (c .is)) (any-env ρ (getD s i 0) w w′ d r (c .pops-some) t))

@@ -1,6 +1,6 @@
 -- The text of a trace's expression: what the token at a place is and its text, by its code, and the loop that writes the tokens. No token has more letters
 -- than six for each of its bytes.
-use Prim.Native.Nat.{ℕ, suc, _+_, _*_, _≤_, _<_}
+use Prim.Native.Nat.{ℕ, _+_, _*_, _≤_, _<_}
 use native.Mathlib.Omega.{arith}
 use mathlib.Core.Path.{_≡_, refl, sym, ap, _∙_}
 use mathlib.Core.Bool.{true}
@@ -9,11 +9,10 @@ use mathlib.Core.List.{List, _++_}
 use lib.ListN.{length, drop, getD}
 use Rattle.expr.specs.declared.File.the-variants.{Trace}
 use Rattle.expr.specs.Number.{numberOf}
-use Rattle.expr.specs.Token.{Token, Const, Symbol, operator, readToken}
-use Rattle.expr.specs.TokenLaws.{operator-is, operator-count}
+use Rattle.expr.specs.Token.{Token, Const, Symbol, readToken}
 use Rattle.expr.specs.Expr.{below, parse}
 use Rattle.expr.specs.Shown.{turned, goes, isWhole, tokensOf, sizeOf, Stands}
-use Rattle.expr.proofs.Steps.{Constant, Reads, Operator, constant-stands, symbol-stands, operator-stands, pops-none}
+use Rattle.expr.proofs.Steps.{Constant, Reads, Operator, constant-stands, symbol-stands, operator-stands}
 use Rattle.expr.proofs.Rests.{Rest, tokens, rest-start, turn, rest-end}
 use Rattle.write.specs.Splice.{Wrote}
 use Rattle.write.specs.SpliceLaws.{wrote-as, Ahead, ahead-start, ahead-step, ahead-end, ahead-length}
@@ -65,14 +64,10 @@ module _ (e : List ℕ) (i : ℕ) (h : i < length e) (st : Stands Trace 4160 e i
 
     pub operator-text : Is e i 1 (nameOf (getD e i 0))
     unfolding nameOf
-    operator-text = go (operator (getD e i 0)) refl
-      where
-        go : (o : Option Token) → operator (getD e i 0) ≡ o → Is e i 1 (nameOf (getD e i 0))
-        go none q = absurd (omega (arith, operates .pops-some, pops-none (getD e i 0) q))
-        go (some t) q = record {
-          size = sym (ap (sizeOf Trace) (operates .is ∙ q) ∙ ap suc (operator-count Trace t (operator-is (getD e i 0) t q .1)));
-          text = ap readText (operates .is ∙ q) ∙ ap (λ o. ascii " " ++ textOf o) (sym q);
-        }
+    operator-text = record {
+      size = operates .one-byte;
+      text = ap readText (operates .is ∙ operates .named) ∙ ap (λ o. ascii " " ++ textOf o) (sym (operates .named));
+    }
 
 -- ---- the loop
 

@@ -1,9 +1,9 @@
 -- The symbols that an expression reads: what marking the token at a place leaves, and the loop over the tokens.
-use Prim.Native.Nat.{ℕ, suc, _+_, _≤_, _<_}
+use Prim.Native.Nat.{ℕ, _+_, _≤_, _<_}
 use native.Mathlib.Omega.{arith}
 use mathlib.Core.Path.{_≡_, refl, sym, ap, _∙_, subst}
 use mathlib.Core.Bool.{Bool, true, false, _||_}
-use mathlib.Core.Option.{Option, none, some}
+use mathlib.Core.Option.{some}
 use mathlib.Core.List.{List}
 use lib.ListN.{length, drop, getD, set}
 use lib.Seq.{getD-set-same, getD-set-other}
@@ -11,12 +11,12 @@ use lib.Dec.{eqb, ltb}
 use borrow.Author.Tests.{eqb-true, eqb-false, ltb-true}
 use Rattle.expr.specs.declared.File.the-variants.{Trace}
 use Rattle.expr.specs.Number.{numberOf}
-use Rattle.expr.specs.Token.{Token, Const, Symbol, Un, Bin, Ite, operator, readToken}
-use Rattle.expr.specs.TokenLaws.{IsOperator, operator-is, operator-count}
+use Rattle.expr.specs.Token.{Token, Const, Symbol, Un, Bin, Ite, readToken}
+use Rattle.expr.specs.TokenLaws.{IsOperator}
 use Rattle.expr.specs.Expr.{below, parse}
 use Rattle.expr.specs.Eval.{readsToken, reads}
 use Rattle.expr.specs.Shown.{isWhole, tokensOf, sizeOf, Stands}
-use Rattle.expr.proofs.Steps.{Reads, Operator, constant-stands, symbol-stands, operator-stands, pops-none}
+use Rattle.expr.proofs.Steps.{Reads, constant-stands, symbol-stands, operator-stands}
 use Rattle.expr.proofs.Rests.{Rest, tokens, rest-start, turn, rest-end}
 use Rattle.slice.specs.Shown.{inSet, readsRead}
 
@@ -66,16 +66,10 @@ module _ (e : List ℕ) (i : ℕ) (needed : List Bool) (h : i < length e) (st : 
       symbol-marks needed′ r = marks-by e i needed needed′ _ (symbol .is) 3 refl (λ x. r x ∙ ap (λ n. eqb x n || inSet needed x) q)
 
   pub operator-marks : (getD e i 0 ≡ 1 → ⊥) → (getD e i 0 ≡ 3 → ⊥) → Marks e i 1 needed needed
-  operator-marks a b = go (operator (getD e i 0)) refl
-    where
-      k : Operator Trace (st .0) e i
-      k = operator-stands Trace (below (length needed)) (st .0) e i h (st .1) a b
-
-      go : (o : Option Token) → operator (getD e i 0) ≡ o → Marks e i 1 needed needed
-      go none q = absurd (omega (arith, k .pops-some, pops-none (getD e i 0) q))
-      go (some t) q =
-          let z = operator-is (getD e i 0) t q .1 in
-          marks-by e i needed needed t (k .is ∙ q) 1 (sym (ap suc (operator-count Trace t z))) (λ x. sym (ap (λ b. b || inSet needed x) (operator-reads x t z)))
+  operator-marks a b =
+      let k = operator-stands Trace (below (length needed)) (st .0) e i h (st .1) a b in
+      let q : readToken Trace (drop i e) ≡ some (k .token) = k .is ∙ k .named in
+      marks-by e i needed needed (k .token) q 1 (k .one-byte ∙ ap (sizeOf Trace) q) (λ x. sym (ap (λ b. b || inSet needed x) (operator-reads x (k .token) (k .coded .1))))
 
 -- ---- the loop
 

@@ -3,19 +3,18 @@ use Prim.Native.Nat.{ℕ, zero, suc, _+_, _*_, _≤_, _<_}
 use native.Mathlib.Omega.{arith}
 use mathlib.Core.Path.{_≡_, refl, sym, ap, _∙_, subst}
 use mathlib.Core.Bool.{Bool, true, false, cond}
-use mathlib.Core.Option.{Option, none, some}
 use mathlib.Core.List.{List, [], _∷_, _++_}
 use lib.ListN.{length, drop, getD, length-append}
 use lib.Dec.{eqb}
 use borrow.Author.Tests.{eqb-true, eqb-false}
 use Rattle.expr.specs.declared.File.the-variants.{Table, Trace}
 use Rattle.expr.specs.Number.{numberOf}
-use Rattle.expr.specs.Token.{Token, Const, Symbol, Un, Bin, Ite, code, tokenBytes, exprBytes, operator, readToken}
-use Rattle.expr.specs.TokenLaws.{IsOperator, operator-is, operator-count}
+use Rattle.expr.specs.Token.{Token, Const, Symbol, Un, Bin, Ite, code, tokenBytes, exprBytes, readToken}
+use Rattle.expr.specs.TokenLaws.{IsOperator}
 use Rattle.expr.specs.Expr.{below, parse}
 use Rattle.expr.specs.Eval.{renameToken, rename}
 use Rattle.expr.specs.Shown.{isWhole, tokensOf, sizeOf, Stands}
-use Rattle.expr.proofs.Steps.{Constant, Reads, Operator, constant-stands, symbol-stands, operator-stands, pops-none}
+use Rattle.expr.proofs.Steps.{Constant, Reads, constant-stands, symbol-stands, operator-stands}
 use Rattle.expr.proofs.Rests.{Rest, tokens, rest-start, Turned, stands, turn, rest-end}
 use Rattle.write.specs.Splice.{Wrote}
 use Rattle.write.specs.SpliceLaws.{wrote-as, Ahead, ahead-start, ahead-step, ahead-end, ahead-room}
@@ -75,19 +74,12 @@ module _ (S : ℕ) (e : List ℕ) (i : ℕ) (h : i < length e) (st : Stands Tabl
     }
 
     pub operator-token : (getD e i 0 ≡ 1 → ⊥) → (getD e i 0 ≡ 2 → ⊥) → Is f e i 1 (getD e i 0 ∷ [])
-    operator-token a b = go (operator (getD e i 0)) refl
-      where
-        k : Operator Table (st .0) e i
-        k = operator-stands Table (below S) (st .0) e i h (st .1) a b
-
-        go : (o : Option Token) → operator (getD e i 0) ≡ o → Is f e i 1 (getD e i 0 ∷ [])
-        go none q = absurd (omega (arith, k .pops-some, pops-none (getD e i 0) q))
-        go (some t) q =
-            let z = operator-is (getD e i 0) t q in
-            record {
-              size = sym (ap (sizeOf Table) (k .is ∙ q) ∙ ap suc (operator-count Table t (z .1)));
-              bytes = ap (renamedBytes f) (k .is ∙ q) ∙ operator-bytes f t (z .1) ∙ ap {B = List ℕ} (λ b. b ∷ []) (sym (z .0));
-            }
+    operator-token a b =
+        let k = operator-stands Table (below S) (st .0) e i h (st .1) a b in
+        record {
+          size = k .one-byte;
+          bytes = ap (renamedBytes f) (k .is ∙ k .named) ∙ operator-bytes f (k .token) (k .coded .1) ∙ ap {B = List ℕ} (λ b. b ∷ []) (sym (k .coded .0));
+        }
 
     -- its bytes in the table and in the trace
     pub record Spans (s : Span) : Type 0 where
