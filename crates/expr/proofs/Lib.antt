@@ -3,3 +3,4 @@ pub mod Turns
 pub mod Steps
 pub mod Evals
 pub mod Rests
+pub mod ReaderRecord
