@@ -4,7 +4,8 @@ use super::File;
 use super::token;
 use super::token::Read;
 ghost use mathlib.Core.Path.{_≡_};
-ghost use Prim.Native.Nat.{_<_};
+ghost use Prim.Native.Nat.{_+_, _<_, _^_};
+ghost use lib.Dec.{ltb};
 ghost use lib.ListN.{length, drop};
 ghost use Rattle.expr.specs.Token.{readToken};
 ghost use Rattle.expr.specs.Shown.{shownToken};
@@ -21,12 +22,36 @@ pub fn reader_at<'a>(rec: &'a [u8], at: usize) -> Reader<'a>
     Reader { rec, at }
 }
 
+fn stands(rec: &[u8], at: usize) -> bool
+    ensures { λ b. ⌜ b ≡ ltb at (length (now (rec .entry))) ⌝ }
+{
+    at < rec.len()
+}
+
+// Whether a token is left.
+pub fn more<'a>(r: Reader<'a>) -> bool
+    ensures { λ b. ⌜ b ≡ ltb (r .entry .at) (length (now (r .entry .rec))) ⌝ }
+{
+    stands(r.rec, r.at)
+}
+
 // The token at the reader's place.
 pub fn next<'a>(r: Reader<'a>, file: File) -> Read
     requires { ⌜ r .at < length (now (r .rec)) ⌝ }
     ensures { λ t. ⌜ t ≡ shownToken (readToken file (drop (r .entry .at) (now (r .entry .rec)))) ⌝ }
 {
     token::token_at(r.rec, r.at, file)
+}
+
+// So many bytes on.
+pub fn moved<'a>(r: Reader<'a>, size: usize) -> Reader<'a>
+    requires { ⌜ r .at + size < 2 ^ 64 ⌝ }
+    ensures { λ q. ⌜ (q .rec ≡ r .entry .rec) × (q .at ≡ r .entry .at + size) ⌝ }
+{
+    Reader {
+        rec: r.rec,
+        at: r.at + size,
+    }
 }
 
 // The token at a place, with all its operands: whoever calls this one needs no proof by hand.
