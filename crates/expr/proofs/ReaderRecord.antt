@@ -13,11 +13,13 @@ use base.Logic.{ent, sep, emp}
 use base.Fml.{Fml}
 use prog.Wp.{Heap}
 use ghost.Atoms.{Atoms, sem}
+use contract.Lifetimes.{Lfts}
 use types.Kit.{Given, ‵, _⊛_, given, _$_, _∵_, !, qed, by, move, drop as let-go, use1, split, learn, fjoin, frame, done}
 use denote.Laws.{Is, Tells}
 use denote.Plain.{uint-makes}
 use denote.Builtin.{u8, usize}
 use denote.Ref.{RefT, NamedLft, now}
+use denote.Signature.{namedLft}
 use denote.Slice.{sliceVal, ShrSlice}
 use denote.Steps.{owned, nothing}
 use denote.Enum.Laws as EL
@@ -33,6 +35,10 @@ use Rattle.expr.proofs.File as F
 use Rattle.expr.proofs.File.Laws as F′
 use Rattle.expr.proofs.reader.Reader as T
 use Rattle.expr.proofs.reader.Reader.Laws as T′
+
+-- the lifetime of a signature that has one
+abbrev pub 'a : Lfts 1 → NamedLft
+'a κs = namedLft 1 0 tt κs
 
 -- ---- machine values
 

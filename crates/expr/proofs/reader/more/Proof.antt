@@ -14,7 +14,6 @@ use prog.Memory.{Memory}
 use prog.Routine.{Routine}
 use prog.Wp.{Heap, Calls, Loops, WpFn, Tables}
 use ghost.Atoms.{Atoms, sem}
-use contract.Lifetimes.{Lfts}
 use contract.Monad.{Fun, fact}
 use contract.Running.{givenOf, tables, tablesOf}
 use types.Kit.{Given, ‵, raw, _⊛_, ⋆, some, later, _$_, _∵_, !, qed, by, move, drop, use1, use2, split, join, pick, fsplit, fjoin, suffices, frame, await, done}
@@ -26,7 +25,6 @@ use denote.Laws.{Is, shows}
 use denote.Plain.{uint-makes, bool-lawful}
 use denote.Builtin.{usize, bool}
 use denote.Ref.{NamedLft}
-use denote.Signature.{namedLft}
 use denote.Steps.{owned, peeks, heard, nothing}
 use denote.Triple.Statement.{Contract, Triple}
 use denote.Triple.Call.{calls-at}
@@ -37,7 +35,7 @@ use denote.Triple.Walked.{says, Stays, stay-none, walkOf, goes-none, Walks, ends
 use denote.Exit.{yes}
 use denote.Triple.Clauses.{ensured, lasts}
 use Rattle.expr.specs.declared.reader.Reader.{Reader}
-use Rattle.expr.proofs.ReaderRecord.{bytesVal, readerVal, readerVals, reader-tells, TypedReader, left, OwnBytes, OwnReader, reader-typed, bytes-beside}
+use Rattle.expr.proofs.ReaderRecord.{'a, bytesVal, readerVal, readerVals, reader-tells, TypedReader, left, OwnBytes, OwnReader, reader-typed, bytes-beside}
 use Rattle.expr.proofs.reader.Reader as T
 use Rattle.expr.proofs.reader.stands as stands
 use Rattle.expr.proofs.reader.stands.Symbol as stands-def
@@ -47,10 +45,6 @@ use Rattle.expr.proofs.reader.more.Key.{name as #expr·reader·more}
 use Rattle.expr.proofs.reader.more as more
 use Rattle.expr.proofs.reader.more.Statement as stated
 use Rattle.expr.proofs.reader.more.Code as code
-
--- 'a, over the signature's lifetimes
-abbrev 'a : Lfts 1 → NamedLft
-'a κs = namedLft 1 0 tt κs
 
 abbrev stayed : Stays (more.ended .signature .params) (more.ended .kept)
 stayed = (stay-none (λ κs. T.the-row ('a κs)) yes, tt)

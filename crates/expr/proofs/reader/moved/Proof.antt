@@ -13,7 +13,6 @@ use prog.Memory.{Memory}
 use prog.Routine.{Routine}
 use prog.Wp.{Heap, Calls, Loops, WpFn, Tables}
 use ghost.Atoms.{Atoms}
-use contract.Lifetimes.{Lfts}
 use contract.Monad.{Fun}
 use contract.Running.{givenOf, tables, tablesOf}
 use types.Kit.{Given, ‵, raw, _⊛_, _$_, _∵_, !, qed, by, move, use1, split, fsplit, fjoin, suffices, frame}
@@ -24,23 +23,18 @@ use denote.RattleType.{owns}
 use denote.Plain.{uint-vals, uint-tells}
 use denote.Builtin.{usize}
 use denote.Ref.{NamedLft}
-use denote.Signature.{namedLft}
 use denote.Triple.Entry.{Vals, onEntry}
 use denote.Triple.Spec.{Meets, tripleOf}
 use denote.Triple.Table.{entered}
 use denote.Triple.Walked.{says, needs, Stays, stay-none, walkOf, goes-none, Walks, ends-at, walked, walk-meets}
 use denote.Exit.{yes}
 use Rattle.expr.specs.declared.reader.Reader.{Reader}
-use Rattle.expr.proofs.ReaderRecord.{readerVal, readerVals, reader-tells, TypedReader, over, OwnBytes, OwnReader, reader-typed, bytes-beside, reader-over}
+use Rattle.expr.proofs.ReaderRecord.{'a, readerVal, readerVals, reader-tells, TypedReader, over, OwnBytes, OwnReader, reader-typed, bytes-beside, reader-over}
 use Rattle.expr.proofs.reader.Reader as T
 use Rattle.expr.proofs.reader.moved.Key.{name as #expr·reader·moved}
 use Rattle.expr.proofs.reader.moved as moved
 use Rattle.expr.proofs.reader.moved.Statement as stated
 use Rattle.expr.proofs.reader.moved.Code as code
-
--- 'a, over the signature's lifetimes
-abbrev 'a : Lfts 1 → NamedLft
-'a κs = namedLft 1 0 tt κs
 
 abbrev stayed : Stays (moved.ended .signature .params) (moved.ended .kept)
 stayed = (stay-none (λ κs. T.the-row ('a κs)) yes, (stay-none (λ _. usize) yes, tt))

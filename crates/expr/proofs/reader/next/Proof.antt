@@ -14,7 +14,6 @@ use prog.Memory.{Memory}
 use prog.Routine.{Routine}
 use prog.Wp.{Heap, Calls, Loops, WpFn, Tables}
 use ghost.Atoms.{Atoms, sem}
-use contract.Lifetimes.{Lfts}
 use contract.Monad.{Fun, fact}
 use contract.Running.{givenOf, tables, tablesOf}
 use types.Kit.{Given, ‵, raw, _⊛_, ⋆, some, later, _$_, _∵_, !, qed, by, move, drop, use0, use1, use2, split, pick, fsplit, fjoin, suffices, frame, await, done}
@@ -26,7 +25,6 @@ use denote.Laws.{Is, shows}
 use denote.Plain.{uint-makes}
 use denote.Builtin.{usize}
 use denote.Ref.{NamedLft, now}
-use denote.Signature.{namedLft}
 use denote.Steps.{owned, peeks, heard, nothing}
 use denote.Enum.Laws as EL
 use denote.Triple.Statement.{Contract, Triple}
@@ -40,7 +38,7 @@ use denote.Triple.Clauses.{ensured, lasts}
 use Rattle.expr.specs.declared.File.{File}
 use Rattle.expr.specs.declared.reader.Reader.{Reader}
 use Rattle.expr.specs.declared.token.Read.{Read}
-use Rattle.expr.proofs.ReaderRecord.{bytesVal, readerVal, readerVals, reader-tells, fileVal, file-tells, TypedReader, tokenAt, OwnFile, OwnBytes, OwnReader, file-typed, file-owned, reader-typed, bytes-beside}
+use Rattle.expr.proofs.ReaderRecord.{'a, bytesVal, readerVal, readerVals, reader-tells, fileVal, file-tells, TypedReader, tokenAt, OwnFile, OwnBytes, OwnReader, file-typed, file-owned, reader-typed, bytes-beside}
 use Rattle.expr.proofs.File as F
 use Rattle.expr.proofs.reader.Reader as T
 use Rattle.expr.proofs.token.Read as R
@@ -53,10 +51,6 @@ use Rattle.expr.proofs.reader.next.Key.{name as #expr·reader·next}
 use Rattle.expr.proofs.reader.next as next
 use Rattle.expr.proofs.reader.next.Statement as stated
 use Rattle.expr.proofs.reader.next.Code as code
-
--- 'a, over the signature's lifetimes
-abbrev 'a : Lfts 1 → NamedLft
-'a κs = namedLft 1 0 tt κs
 
 abbrev stayed : Stays (next.ended .signature .params) (next.ended .kept)
 stayed = (stay-none (λ κs. T.the-row ('a κs)) yes, (stay-none (λ _. F.the-row) yes, tt))

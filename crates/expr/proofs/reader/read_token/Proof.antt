@@ -24,7 +24,7 @@ use denote.Laws.{Is, shows}
 use denote.Plain.{uint-vals, uint-tells, uint-makes}
 use denote.Builtin.{u8, usize}
 use denote.Ref.{RefT, NamedLft, now}
-use denote.Signature.{plain, namedLft}
+use denote.Signature.{plain}
 use denote.Slice.{ShrSlice, slice-vals, shr-slice-tells, shr-slice-lawful, shr-slice-copy}
 use denote.Steps.{owned, peeks, heard, nothing}
 use denote.Enum.Laws as EL
@@ -39,7 +39,7 @@ use denote.Triple.Clauses.{ensured, lasts}
 use Rattle.expr.specs.declared.File.{File}
 use Rattle.expr.specs.declared.reader.Reader.{Reader}
 use Rattle.expr.specs.declared.token.Read.{Read}
-use Rattle.expr.proofs.ReaderRecord.{bytesVal, fileVal, file-tells, over, tokenAt, OwnFile, OwnBytes, file-typed, file-owned, reader-typed}
+use Rattle.expr.proofs.ReaderRecord.{'a, bytesVal, fileVal, file-tells, over, tokenAt, OwnFile, OwnBytes, file-typed, file-owned, reader-typed}
 use Rattle.expr.proofs.File as F
 use Rattle.expr.proofs.reader.Reader as T
 use Rattle.expr.proofs.token.Read as R
@@ -70,7 +70,7 @@ module _ {M : Type 1} (𝓤 : URA M) (H : Heap 𝓤) (A : Atoms 𝓤) (mem : Mem
 
 module _ {M : Type 1} (𝓤 : URA M) (H : Heap 𝓤) (A : Atoms 𝓤) (W : Given 𝓤 H A) (mem : Memory → SProp 𝓤) (run : Routine → Fun 𝓤) (κ : Lft) (q : Share) (s : RefT (List ℕ)) (n : ℕ) (f : File) (fits : n < 2 ^ 64) where
   abbrev α : NamedLft
-  α = namedLft 1 0 tt (κ, tt)
+  α = 'a (κ, tt)
 
   -- the lifetime as a local of a body has it
   abbrev αᵉ : NamedLft

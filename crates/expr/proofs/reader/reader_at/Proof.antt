@@ -24,14 +24,14 @@ use denote.Laws.{Is}
 use denote.Plain.{uint-vals, uint-tells}
 use denote.Builtin.{u8, usize}
 use denote.Ref.{RefT, NamedLft}
-use denote.Signature.{plain, namedLft}
+use denote.Signature.{plain}
 use denote.Slice.{ShrSlice, slice-vals, shr-slice-tells, shr-slice-lawful, shr-slice-copy}
 use denote.Triple.Entry.{Vals, onEntry}
 use denote.Triple.Spec.{Meets, tripleOf}
 use denote.Triple.Table.{entered}
 use denote.Triple.Walked.{says, Stays, stay-none, stay-none-slice, walkOf, goes-none, goes-none-slice, Walks, ends-at, walked, walk-meets}
 use denote.Exit.{yes}
-use Rattle.expr.proofs.ReaderRecord.{bytesVal, readerVal, over, OwnBytes, reader-over}
+use Rattle.expr.proofs.ReaderRecord.{'a, bytesVal, readerVal, over, OwnBytes, reader-over}
 use Rattle.expr.proofs.reader.reader_at.Key.{name as #expr·reader·reader-at}
 use Rattle.expr.proofs.reader.reader_at as reader-at
 use Rattle.expr.proofs.reader.reader_at.Statement as stated
@@ -42,7 +42,7 @@ stayed = (stay-none-slice (0 ∷ []) tt (plain (λ _. u8)) yes, (stay-none (λ _
 
 module _ {M : Type 1} (𝓤 : URA M) (H : Heap 𝓤) (A : Atoms 𝓤) (W : Given 𝓤 H A) (mem : Memory → SProp 𝓤) (run : Routine → Fun 𝓤) (κ : Lft) (q : Share) (s : RefT (List ℕ)) (n : ℕ) (fits : n < 2 ^ 64) where
   abbrev α : NamedLft
-  α = namedLft 1 0 tt (κ, tt)
+  α = 'a (κ, tt)
 
   abbrev at : Vals reader-at.signature (κ, tt)
   at = (bytesVal s ∷ [], (vint w64 n ∷ [], tt))
