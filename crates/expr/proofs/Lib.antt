@@ -3,3 +3,5 @@ pub mod Turns
 pub mod Steps
 pub mod Evals
 pub mod Rests
+pub mod Walks
+pub mod StackRecord

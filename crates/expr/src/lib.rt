@@ -3,6 +3,7 @@
 pub mod accept;
 pub mod eval;
 pub mod number;
+pub mod stack;
 pub mod token;
 pub mod word;
 
