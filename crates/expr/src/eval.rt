@@ -2,6 +2,7 @@
 use super::File;
 use super::number;
 use super::stack;
+use super::stack::Stack;
 use super::token;
 use super::word;
 ghost use mathlib.Core.Path.{_≡_};
@@ -125,6 +126,17 @@ fn step_at(
         depth: apply(code, words, depth),
         size: 1,
     }
+}
+
+// The token at a place, on the stack; the bytes that it took.
+fn token(s: &mut Stack, e: &[u8], at: usize, file: File, vals: &[u32]) -> usize
+    requires { ⌜ (at < length (now e)) × (now s .depth ≤ 17) × (length (now s .words) ≡ 17) × (goes (turned file (below (length (now vals))) (now s .depth) (readToken file (drop at (now e)))) ≡ true) ⌝ }
+    ensures { λ r. ⌜ (r ≡ sizeOf file (readToken file (drop at (now (e .entry))))) × Stepped (envOf (now (vals .entry))) (readToken file (drop at (now (e .entry)))) (now (s .entry) .words) (now (s .entry) .depth) (now (s .exit) .words) (now (s .exit) .depth) ⌝ }
+{
+    let depth = s.depth;
+    let t = step_at(e, at, file, vals, &mut s.words, depth);
+    s.depth = t.depth;
+    t.size
 }
 
 // The word that an expression leaves, with the values of its symbols.
