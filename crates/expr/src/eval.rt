@@ -144,13 +144,11 @@ pub fn eval_expr(e: &[u8], file: File, vals: &[u32]) -> u32
     requires { ⌜ isWhole (parse file (below (length (now vals))) (now e)) ≡ true ⌝ }
     ensures { λ r. ⌜ r ≡ valueOf (envOf (now (vals .entry))) (parse file (below (length (now (vals .entry)))) (now (e .entry))) ⌝ }
 {
-    let mut words: [u32; 17] = [0; 17];
-    let mut depth: usize = 0;
+    let mut s = stack::empty();
     let mut at: usize = 0;
     while at < e.len() {
-        let s = step_at(e, at, file, vals, &mut words, depth);
-        depth = s.depth;
-        at += s.size;
+        let size = token(&mut s, e, at, file, vals);
+        at += size;
     }
-    words[0]
+    stack::pop(&mut s)
 }
