@@ -4,3 +4,5 @@ pub mod Steps
 pub mod Evals
 pub mod Rests
 pub mod ReaderRecord
+pub mod Walks
+pub mod StackRecord

@@ -4,6 +4,7 @@ pub mod accept;
 pub mod eval;
 pub mod number;
 pub mod reader;
+pub mod stack;
 pub mod token;
 pub mod word;
 
