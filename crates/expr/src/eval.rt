@@ -1,6 +1,8 @@
 // The value of an expression that was checked.
 use super::File;
 use super::number;
+use super::reader;
+use super::reader::Reader;
 use super::stack;
 use super::stack::Stack;
 use super::token;
@@ -128,13 +130,13 @@ fn step_at(
     }
 }
 
-// The token at a place, on the stack; the bytes that it took.
-fn token(s: &mut Stack, e: &[u8], at: usize, file: File, vals: &[u32]) -> usize
-    requires { ⌜ (at < length (now e)) × (now s .depth ≤ 17) × (length (now s .words) ≡ 17) × (goes (turned file (below (length (now vals))) (now s .depth) (readToken file (drop at (now e)))) ≡ true) ⌝ }
-    ensures { λ r. ⌜ (r ≡ sizeOf file (readToken file (drop at (now (e .entry))))) × Stepped (envOf (now (vals .entry))) (readToken file (drop at (now (e .entry)))) (now (s .entry) .words) (now (s .entry) .depth) (now (s .exit) .words) (now (s .exit) .depth) ⌝ }
+// The token at the reader's place, on the stack; the bytes that it took.
+fn token<'a>(s: &mut Stack, r: Reader<'a>, file: File, vals: &[u32]) -> usize
+    requires { ⌜ (r .at < length (now (r .rec))) × (now s .depth ≤ 17) × (length (now s .words) ≡ 17) × (goes (turned file (below (length (now vals))) (now s .depth) (readToken file (drop (r .at) (now (r .rec))))) ≡ true) ⌝ }
+    ensures { λ n. ⌜ (n ≡ sizeOf file (readToken file (drop (r .entry .at) (now (r .entry .rec))))) × Stepped (envOf (now (vals .entry))) (readToken file (drop (r .entry .at) (now (r .entry .rec)))) (now (s .entry) .words) (now (s .entry) .depth) (now (s .exit) .words) (now (s .exit) .depth) ⌝ }
 {
     let depth = s.depth;
-    let t = step_at(e, at, file, vals, &mut s.words, depth);
+    let t = step_at(r.rec, r.at, file, vals, &mut s.words, depth);
     s.depth = t.depth;
     t.size
 }
@@ -145,10 +147,10 @@ pub fn eval_expr(e: &[u8], file: File, vals: &[u32]) -> u32
     ensures { λ r. ⌜ r ≡ valueOf (envOf (now (vals .entry))) (parse file (below (length (now (vals .entry)))) (now (e .entry))) ⌝ }
 {
     let mut s = stack::empty();
-    let mut at: usize = 0;
-    while at < e.len() {
-        let size = token(&mut s, e, at, file, vals);
-        at += size;
+    let mut r = reader::reader_at(e, 0);
+    while reader::more(r) {
+        let size = token(&mut s, r, file, vals);
+        r = reader::moved(r, size);
     }
     stack::pop(&mut s)
 }

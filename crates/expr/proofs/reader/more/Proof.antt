@@ -35,7 +35,8 @@ use denote.Triple.Walked.{says, Stays, stay-none, walkOf, goes-none, Walks, ends
 use denote.Exit.{yes}
 use denote.Triple.Clauses.{ensured, lasts}
 use Rattle.expr.specs.declared.reader.Reader.{Reader}
-use Rattle.expr.proofs.ReaderRecord.{'a, bytesVal, readerVal, readerVals, reader-tells, TypedReader, left, OwnBytes, OwnReader, reader-typed, bytes-beside}
+use Rattle.expr.proofs.Walks.{slice-val}
+use Rattle.expr.proofs.ReaderRecord.{'a, readerVal, readerVals, reader-tells, TypedReader, left, OwnBytes, OwnReader, reader-typed, bytes-beside}
 use Rattle.expr.proofs.reader.Reader as T
 use Rattle.expr.proofs.reader.stands as stands
 use Rattle.expr.proofs.reader.stands.Symbol as stands-def
@@ -66,7 +67,7 @@ module _ {M : Type 1} (𝓤 : URA M) (H : Heap 𝓤) (A : Atoms 𝓤) (W : Given
 
   -- the call of `stands`: what it is passed, what it asks, and what is known of its result
   abbrev passed : Vals stands.signature (κ, tt)
-  passed = (bytesVal (d .rec) ∷ [], (vint w64 (d .at) ∷ [], tt))
+  passed = (slice-val (d .rec) ∷ [], (vint w64 (d .at) ∷ [], tt))
 
   abbrev to : Stands 𝓤 H A mem run .Ghost
   to = (((κ, tt), (q, tt), tt, (d .rec, (d .at, tt)), passed), tt)

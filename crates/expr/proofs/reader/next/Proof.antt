@@ -38,7 +38,8 @@ use denote.Triple.Clauses.{ensured, lasts}
 use Rattle.expr.specs.declared.File.{File}
 use Rattle.expr.specs.declared.reader.Reader.{Reader}
 use Rattle.expr.specs.declared.token.Read.{Read}
-use Rattle.expr.proofs.ReaderRecord.{'a, bytesVal, readerVal, readerVals, reader-tells, fileVal, file-tells, TypedReader, tokenAt, OwnFile, OwnBytes, OwnReader, file-typed, file-owned, reader-typed, bytes-beside}
+use Rattle.expr.proofs.Walks.{slice-val}
+use Rattle.expr.proofs.ReaderRecord.{'a, readerVal, readerVals, reader-tells, fileVal, file-tells, TypedReader, tokenAt, OwnFile, OwnBytes, OwnReader, file-typed, file-owned, reader-typed, bytes-beside}
 use Rattle.expr.proofs.File as F
 use Rattle.expr.proofs.reader.Reader as T
 use Rattle.expr.proofs.token.Read as R
@@ -72,7 +73,7 @@ module _ {M : Type 1} (𝓤 : URA M) (H : Heap 𝓤) (A : Atoms 𝓤) (W : Given
 
   -- the call of `token_at`: what it is passed, what it asks, and what is known of its result
   abbrev passed : Vals token-at.signature (κ, tt)
-  passed = (bytesVal (d .rec) ∷ [], (vint w64 (d .at) ∷ [], (fileVal f ∷ [], tt)))
+  passed = (slice-val (d .rec) ∷ [], (vint w64 (d .at) ∷ [], (fileVal f ∷ [], tt)))
 
   abbrev to : TokenAt 𝓤 H A mem run .Ghost
   to = (((κ, tt), (q, tt), tt, (d .rec, (d .at, (f, tt))), passed), tt)

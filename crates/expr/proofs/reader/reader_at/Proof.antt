@@ -15,7 +15,7 @@ use prog.Wp.{Heap, Calls, Loops, WpFn, Tables}
 use ghost.Atoms.{Atoms}
 use contract.Monad.{Fun}
 use contract.Running.{givenOf, tables, tablesOf}
-use types.Kit.{Given, ‵, raw, _⊛_, _$_, _∵_, !, qed, by, move, use1, split, fsplit, fjoin, suffices, frame}
+use types.Kit.{Given, ‵, raw, _⊛_, _$_, _∵_, !, qed, by, move, fsplit, fjoin, suffices, frame}
 use types.Part.{agg}
 use types.Run.{look, init, forget, stop, from, load, and-then, no-more, assigns, returns, enter, alloc1, alloc0, params1, pass1, pass0, free1, free0}
 use sound.WpLaws.{WpFn-mono}
@@ -25,13 +25,14 @@ use denote.Plain.{uint-vals, uint-tells}
 use denote.Builtin.{u8, usize}
 use denote.Ref.{RefT, NamedLft}
 use denote.Signature.{plain}
-use denote.Slice.{ShrSlice, slice-vals, shr-slice-tells, shr-slice-lawful, shr-slice-copy}
+use denote.Slice.{ShrSlice, slice-vals, shr-slice-tells, shr-slice-lawful}
 use denote.Triple.Entry.{Vals, onEntry}
 use denote.Triple.Spec.{Meets, tripleOf}
 use denote.Triple.Table.{entered}
 use denote.Triple.Walked.{says, Stays, stay-none, stay-none-slice, walkOf, goes-none, goes-none-slice, Walks, ends-at, walked, walk-meets}
 use denote.Exit.{yes}
-use Rattle.expr.proofs.ReaderRecord.{'a, bytesVal, readerVal, over, OwnBytes, reader-over}
+use Rattle.expr.proofs.Walks.{slice-twice, slice-val}
+use Rattle.expr.proofs.ReaderRecord.{'a, readerVal, over, reader-over}
 use Rattle.expr.proofs.reader.reader_at.Key.{name as #expr·reader·reader-at}
 use Rattle.expr.proofs.reader.reader_at as reader-at
 use Rattle.expr.proofs.reader.reader_at.Statement as stated
@@ -45,7 +46,7 @@ module _ {M : Type 1} (𝓤 : URA M) (H : Heap 𝓤) (A : Atoms 𝓤) (W : Given
   α = 'a (κ, tt)
 
   abbrev at : Vals reader-at.signature (κ, tt)
-  at = (bytesVal s ∷ [], (vint w64 n ∷ [], tt))
+  at = (slice-val s ∷ [], (vint w64 n ∷ [], tt))
 
   abbrev Post : Val → SProp 𝓤
   Post = walkOf 𝓤 H A reader-at.ended stayed (reader-at.clauses 𝓤 H A mem run) .post (((κ, tt), (q, tt), tt, (s, (n, tt)), at), tt)
@@ -54,17 +55,17 @@ module _ {M : Type 1} (𝓤 : URA M) (H : Heap 𝓤) (A : Atoms 𝓤) (W : Given
   exits =
       qed W ((‵ (flft κ q) ⊛ ‵ ftrue) ∷ ‵ (owns (ShrSlice (named 0) κ u8 ∷ usize ∷ []) (s, (n, tt)) at) ∷ []) ∵
       suffices ! _ (ends-at 𝓤 H A reader-at.ended stayed (reader-at.clauses 𝓤 H A mem run) W (((κ, tt), (q, tt), tt, (s, (n, tt)), at), tt) (readerVal (over s n)) (over s n) (tt, (tt, tt)) (tt, (tt, tt))) $ says ! (refl, refl) $
-      frame ! $ fsplit ! $ use1 W (‵ (OwnBytes α s) ⊛ ‵ (OwnBytes α s)) (shr-slice-copy 𝓤 H A W (named 0) κ u8 .twice s (bytesVal s ∷ [])) $ split ! $ move ! (0 ∷ 2 ∷ []) $ fjoin ! $ frame ! $
+      frame ! $ fsplit ! $ slice-twice ! u8 α s (slice-val s ∷ []) $ move ! (0 ∷ 2 ∷ []) $ fjoin ! $ frame ! $
       -- [what the bytes own]
       by ! (reader-over 𝓤 H A W α s n fits)
 
   module _ (C : Calls 𝓤 H) (Λ : Loops 𝓤 H) where
-    walk : Is (ShrSlice (named 0) κ u8) s (bytesVal s ∷ []) → ent 𝓤 (onEntry 𝓤 H A reader-at.signature (κ, tt) (q, tt) (s, (n, tt)) at) (WpFn 𝓤 H C Λ code.function (bytesVal s ∷ vint w64 n ∷ []) Post)
+    walk : Is (ShrSlice (named 0) κ u8) s (slice-val s ∷ []) → ent 𝓤 (onEntry 𝓤 H A reader-at.signature (κ, tt) (q, tt) (s, (n, tt)) at) (WpFn 𝓤 H C Λ code.function (slice-val s ∷ vint w64 n ∷ []) Post)
     walk p =
-        qed W (raw (onEntry 𝓤 H A reader-at.signature (κ, tt) (q, tt) (s, (n, tt)) at) ∷ []) ∵ enter ! C Λ code.function (bytesVal s ∷ vint w64 n ∷ []) _ $
-        alloc1 ! (λ l₀. alloc1 ! (λ l₁. alloc1 ! (λ l₂. alloc0 ! $ params1 ! $ pass1 ! (init ! 2 refl (shr-slice-lawful 𝓤 H A W (named 0) κ u8 .typed s (bytesVal s ∷ []) p .0)) $ pass1 ! (init ! 0 refl (tt, record { fits = fits })) $ pass0 ! $
+        qed W (raw (onEntry 𝓤 H A reader-at.signature (κ, tt) (q, tt) (s, (n, tt)) at) ∷ []) ∵ enter ! C Λ code.function (slice-val s ∷ vint w64 n ∷ []) _ $
+        alloc1 ! (λ l₀. alloc1 ! (λ l₁. alloc1 ! (λ l₂. alloc0 ! $ params1 ! $ pass1 ! (init ! 2 refl (shr-slice-lawful 𝓤 H A W (named 0) κ u8 .typed s (slice-val s ∷ []) p .0)) $ pass1 ! (init ! 0 refl (tt, record { fits = fits })) $ pass0 ! $
         -- [_2; …; _1; …; room for _0; …; what is owned at entry]
-        assigns ! (agg ! (and-then ! (load ! (from ! (stop !)) (look ! 2 refl)) (and-then ! (load ! (from ! (stop !)) (look ! 0 refl)) (no-more !)))) (from ! (stop !)) (init ! 4 refl (tt, (shr-slice-lawful 𝓤 H A W (named 0) κ u8 .typed s (bytesVal s ∷ []) p .0 .1, (record { fits = fits }, tt)))) $
+        assigns ! (agg ! (and-then ! (load ! (from ! (stop !)) (look ! 2 refl)) (and-then ! (load ! (from ! (stop !)) (look ! 0 refl)) (no-more !)))) (from ! (stop !)) (init ! 4 refl (tt, (shr-slice-lawful 𝓤 H A W (named 0) κ u8 .typed s (slice-val s ∷ []) p .0 .1, (record { fits = fits }, tt)))) $
         returns ! (look ! 4 refl) $ forget ! 0 refl $ forget ! 2 refl $ forget ! 4 refl $ move ! (4 ∷ 5 ∷ []) $ free1 ! $ move ! (2 ∷ 3 ∷ []) $ free1 ! $ free1 ! $ free0 ! $ by ! exits)))
 
 module _ {M : Type 1} (𝓤 : URA M) (H : Heap 𝓤) (A : Atoms 𝓤) (W : Given 𝓤 H A) (mem : Memory → SProp 𝓤) (run : Routine → Fun 𝓤) where
