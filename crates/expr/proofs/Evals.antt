@@ -1,5 +1,5 @@
 -- The evaluator's loop: the value of the rest of the expression, from the stack that is reached, is the value of the whole.
-use Prim.Native.Nat.{ℕ, _+_, _≤_, _<_}
+use Prim.Native.Nat.{ℕ, _+_, _-_, _≤_, _<_}
 use native.Mathlib.Omega.{arith}
 use mathlib.Core.Path.{_≡_, refl, sym, ap, ap₂, _∙_}
 use mathlib.Core.Bool.{Bool, true, false, cond}
@@ -73,14 +73,21 @@ module _ (F : File) (vals e : List ℕ) where
           };
         }
 
-    pub end : length e ≤ at → getD words 0 0 ≡ valueOf (envOf vals) (parse F (below (length vals)) e)
-    unfolding stackOf
-    end h = go (eqb depth 1) refl
-      where
-        done : rest at depth ≡ cond (eqb depth 1) (Whole []) (Breaks [])
-        done = end-at F (below (length vals)) depth e at h
+    at-end : length e ≤ at → rest at depth ≡ cond (eqb depth 1) (Whole []) (Breaks [])
+    at-end h = end-at F (below (length vals)) depth e at h
 
-        go : (x : Bool) → eqb depth 1 ≡ x → getD words 0 0 ≡ valueOf (envOf vals) (parse F (below (length vals)) e)
-        go true q =
-            sym (ap₂ (valueFrom (envOf vals)) (ap (stackOf words) (eqb-true depth 1 q)) (done ∙ ap (λ x. cond x (Whole []) (Breaks [])) q)) ∙ v .same
-        go false q = absurd (let z = sym (v .whole) ∙ ap isWhole (done ∙ ap (λ x. cond x (Whole []) (Breaks [])) q) in let y : _≡_ {A = ℕ} 0 1 = cc in omega arith)
+    pub one-word : length e ≤ at → depth ≡ 1
+    one-word h = go (eqb depth 1) refl
+      where
+        go : (x : Bool) → eqb depth 1 ≡ x → depth ≡ 1
+        go true q = eqb-true depth 1 q
+        go false q = absurd (let z = sym (v .whole) ∙ ap isWhole (at-end h ∙ ap (λ x. cond x (Whole []) (Breaks [])) q) in let y : _≡_ {A = ℕ} 0 1 = cc in omega arith)
+
+    -- the last word is the value
+    pub end : length e ≤ at → getD words (depth - 1) 0 ≡ valueOf (envOf vals) (parse F (below (length vals)) e)
+    unfolding stackOf
+    end h =
+        let one = one-word h in
+        ap (λ d. getD words (d - 1) 0) one
+        ∙ sym (ap₂ (valueFrom (envOf vals)) (ap (stackOf words) one) (at-end h ∙ ap (λ d. cond (eqb d 1) (Whole []) (Breaks [])) one))
+        ∙ v .same

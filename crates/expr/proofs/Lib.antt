@@ -3,3 +3,6 @@ pub mod Turns
 pub mod Steps
 pub mod Evals
 pub mod Rests
+pub mod ReaderRecord
+pub mod Walks
+pub mod StackRecord

@@ -12,5 +12,6 @@ pub mod EvalLaws
 pub mod Cases
 -- What the code's values mean in these terms.
 pub mod Shown
+pub mod Stack
 -- Lists and tests in general.
 pub mod Lists

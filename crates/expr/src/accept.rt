@@ -1,5 +1,6 @@
 // Which bytes are an expression.
 use super::File;
+use super::reader;
 use super::token;
 use super::token::Read;
 ghost use mathlib.Core.Path.{_≡_};
@@ -48,7 +49,7 @@ fn turn(e: &[u8], at: usize, file: File, inputs: usize, assigned: &[bool], depth
     ensures { λ r. ⌜ r ≡ turned file (readable inputs (now (assigned .entry))) depth (readToken file (drop at (now (e .entry)))) ⌝ }
 {
     let limit = depth_limit(file);
-    let t = token::read_token(e, at, file);
+    let t = reader::read_token(e, at, file);
     match t {
         Read::Nothing => After::Stop,
         Read::Constant(_) => {

@@ -1,6 +1,10 @@
 // The value of an expression that was checked.
 use super::File;
 use super::number;
+use super::reader;
+use super::reader::Reader;
+use super::stack;
+use super::stack::Stack;
 use super::token;
 use super::word;
 ghost use mathlib.Core.Path.{_≡_};
@@ -51,21 +55,12 @@ fn binary(code: u8, a: u32, b: u32) -> u32
     }
 }
 
-// Puts a word on the first `depth` words.
-fn push(words: &mut [u32; 17], depth: usize, w: u32) -> usize
-    requires { ⌜ depth < 17 ⌝ }
-    ensures { λ r. ⌜ (r ≡ depth + 1) × (now (words .exit) ≡ set (now (words .entry)) depth w) ⌝ }
-{
-    words[depth] = w;
-    depth + 1
-}
-
 fn apply_unary(code: u8, words: &mut [u32; 17], depth: usize) -> usize
     requires { ⌜ (0x10 ≤ code) × (code < 0x13) × (1 ≤ depth) × (depth ≤ 17) × (length (now words) ≡ 17) ⌝ }
     ensures { λ r. ⌜ Stepped nowhere (operator code) (now (words .entry)) depth (now (words .exit)) r ⌝ }
 {
     let a = words[depth - 1];
-    push(words, depth - 1, unary(code, a))
+    stack::put(words, depth - 1, unary(code, a))
 }
 
 fn apply_binary(code: u8, words: &mut [u32; 17], depth: usize) -> usize
@@ -74,7 +69,7 @@ fn apply_binary(code: u8, words: &mut [u32; 17], depth: usize) -> usize
 {
     let a = words[depth - 2];
     let b = words[depth - 1];
-    push(words, depth - 2, binary(code, a, b))
+    stack::put(words, depth - 2, binary(code, a, b))
 }
 
 fn apply_ite(words: &mut [u32; 17], depth: usize) -> usize
@@ -84,7 +79,7 @@ fn apply_ite(words: &mut [u32; 17], depth: usize) -> usize
     let c = words[depth - 3];
     let a = words[depth - 2];
     let b = words[depth - 1];
-    push(words, depth - 3, word::ite(c, a, b))
+    stack::put(words, depth - 3, word::ite(c, a, b))
 }
 
 // One operator, on the first `depth` words; the words that are held then.
@@ -117,7 +112,7 @@ fn step_at(
     if code == 0x01 {
         let w = number::word_at(e, at + 1);
         return Step {
-            depth: push(words, depth, w),
+            depth: stack::put(words, depth, w),
             size: 5,
         };
     }
@@ -125,7 +120,7 @@ fn step_at(
         let symbol = token::symbol_at(e, at + 1, file);
         let w = vals[symbol];
         return Step {
-            depth: push(words, depth, w),
+            depth: stack::put(words, depth, w),
             size: token::symbol_width(file) + 1,
         };
     }
@@ -135,18 +130,27 @@ fn step_at(
     }
 }
 
+// The token at the reader's place, on the stack; the bytes that it took.
+fn token<'a>(s: &mut Stack, r: Reader<'a>, file: File, vals: &[u32]) -> usize
+    requires { ⌜ (r .at < length (now (r .rec))) × (now s .depth ≤ 17) × (length (now s .words) ≡ 17) × (goes (turned file (below (length (now vals))) (now s .depth) (readToken file (drop (r .at) (now (r .rec))))) ≡ true) ⌝ }
+    ensures { λ n. ⌜ (n ≡ sizeOf file (readToken file (drop (r .entry .at) (now (r .entry .rec))))) × Stepped (envOf (now (vals .entry))) (readToken file (drop (r .entry .at) (now (r .entry .rec)))) (now (s .entry) .words) (now (s .entry) .depth) (now (s .exit) .words) (now (s .exit) .depth) ⌝ }
+{
+    let depth = s.depth;
+    let t = step_at(r.rec, r.at, file, vals, &mut s.words, depth);
+    s.depth = t.depth;
+    t.size
+}
+
 // The word that an expression leaves, with the values of its symbols.
 pub fn eval_expr(e: &[u8], file: File, vals: &[u32]) -> u32
     requires { ⌜ isWhole (parse file (below (length (now vals))) (now e)) ≡ true ⌝ }
     ensures { λ r. ⌜ r ≡ valueOf (envOf (now (vals .entry))) (parse file (below (length (now (vals .entry)))) (now (e .entry))) ⌝ }
 {
-    let mut words: [u32; 17] = [0; 17];
-    let mut depth: usize = 0;
-    let mut at: usize = 0;
-    while at < e.len() {
-        let s = step_at(e, at, file, vals, &mut words, depth);
-        depth = s.depth;
-        at += s.size;
+    let mut s = stack::empty();
+    let mut r = reader::reader_at(e, 0);
+    while reader::more(r) {
+        let size = token(&mut s, r, file, vals);
+        r = reader::moved(r, size);
     }
-    words[0]
+    stack::pop(&mut s)
 }

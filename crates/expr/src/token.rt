@@ -58,7 +58,7 @@ pub fn pops(code: u8) -> usize
 }
 
 // The token at a place, with all its operands.
-pub fn read_token(e: &[u8], at: usize, file: File) -> Read
+pub fn token_at(e: &[u8], at: usize, file: File) -> Read
     requires { ⌜ at < length (now e) ⌝ }
     ensures { λ r. ⌜ r ≡ shownToken (readToken file (drop at (now (e .entry)))) ⌝ }
 {

@@ -21,17 +21,17 @@ mul-b c = search needs
 element-copy-out-b : tie.Need-element-copy-out-b
 element-copy-out-b c = search needs
 
-sub-push : tie.Need-sub-push
-sub-push c = search needs
+sub-put : tie.Need-sub-put
+sub-put c = search needs
 
 binary-requires : tie.Need-binary-requires
 binary-requires c κs = search needs
 
-push-requires : tie.Need-push-requires
-push-requires c κs = search needs
+put-requires : tie.Need-put-requires
+put-requires c κs = search needs
 
 returns : tie.Need-returns
-returns c = binary-steps _ _ _ _ _ (c .before .before .before .before .before .pre .4) (c .before .before .before .before .before .pre .3) _ (c .before .before .before .before .before .pre .0) (c .before .before .before .before .before .pre .1) (c .before .before .before .before .before .pre .2) (c .push .ensures .0) (c .push .ensures .1) (c .before .binary .ensures)
+returns c = binary-steps _ _ _ _ _ (c .before .before .before .before .before .pre .4) (c .before .before .before .before .before .pre .3) _ (c .before .before .before .before .before .pre .0) (c .before .before .before .before .before .pre .1) (c .before .before .before .before .before .pre .2) (c .put .ensures .0) (c .put .ensures .1) (c .before .binary .ensures)
 
 pub apply-binary-spec : {M : Type 1} → statement M
 apply-binary-spec =
@@ -43,7 +43,7 @@ apply-binary-spec =
     sub-b
     mul-b
     element-copy-out-b
-    sub-push
+    sub-put
     binary-requires
-    push-requires
+    put-requires
     returns)

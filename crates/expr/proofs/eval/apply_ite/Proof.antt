@@ -30,17 +30,17 @@ mul-b c = search needs
 element-copy-out-b : tie.Need-element-copy-out-b
 element-copy-out-b c = search needs
 
-sub-push : tie.Need-sub-push
-sub-push c = search needs
+sub-put : tie.Need-sub-put
+sub-put c = search needs
 
 ite-requires : tie.Need-ite-requires
 ite-requires c κs = search needs
 
-push-requires : tie.Need-push-requires
-push-requires c κs = search needs
+put-requires : tie.Need-put-requires
+put-requires c κs = search needs
 
 returns : tie.Need-returns
-returns c = ite-steps _ _ _ _ _ (c .before .before .before .before .before .before .pre .2) (c .before .before .before .before .before .before .pre .1) (c .before .before .before .before .before .before .pre .0) (c .push .ensures .0) (c .push .ensures .1) (c .before .ite .ensures)
+returns c = ite-steps _ _ _ _ _ (c .before .before .before .before .before .before .pre .2) (c .before .before .before .before .before .before .pre .1) (c .before .before .before .before .before .before .pre .0) (c .put .ensures .0) (c .put .ensures .1) (c .before .ite .ensures)
 
 pub apply-ite-spec : {M : Type 1} → statement M
 apply-ite-spec =
@@ -55,7 +55,7 @@ apply-ite-spec =
     sub-b
     mul-b
     element-copy-out-b
-    sub-push
+    sub-put
     ite-requires
-    push-requires
+    put-requires
     returns)

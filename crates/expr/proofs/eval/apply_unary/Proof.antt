@@ -12,19 +12,19 @@ mul-a c = search needs
 element-copy-out-a : tie.Need-element-copy-out-a
 element-copy-out-a c = search needs
 
-sub-push : tie.Need-sub-push
-sub-push c = search needs
+sub-put : tie.Need-sub-put
+sub-put c = search needs
 
 unary-requires : tie.Need-unary-requires
 unary-requires c κs = search needs
 
-push-requires : tie.Need-push-requires
-push-requires c κs = search needs
+put-requires : tie.Need-put-requires
+put-requires c κs = search needs
 
 returns : tie.Need-returns
-returns c = unary-steps _ _ _ _ _ (c .before .before .before .before .pre .4) (c .before .before .before .before .pre .3) _ (c .before .before .before .before .pre .0) (c .before .before .before .before .pre .1) (c .before .before .before .before .pre .2) (c .push .ensures .0) (c .push .ensures .1) (c .before .unary .ensures)
+returns c = unary-steps _ _ _ _ _ (c .before .before .before .before .pre .4) (c .before .before .before .before .pre .3) _ (c .before .before .before .before .pre .0) (c .before .before .before .before .pre .1) (c .before .before .before .before .pre .2) (c .put .ensures .0) (c .put .ensures .1) (c .before .unary .ensures)
 
 pub apply-unary-spec : {M : Type 1} → statement M
 apply-unary-spec =
     tie.close
-    (tie.spec sub-a mul-a element-copy-out-a sub-push unary-requires push-requires returns)
+    (tie.spec sub-a mul-a element-copy-out-a sub-put unary-requires put-requires returns)

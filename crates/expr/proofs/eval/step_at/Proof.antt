@@ -41,11 +41,11 @@ add-word-at c = search needs
 word-at-requires : tie.Need-word-at-requires
 word-at-requires c κs = omega (arith, constant c .there)
 
-push-requires : tie.Need-push-requires
-push-requires c κs = omega (arith, constant (c .before .before) .room, depthLimit-le (c .before .before .before .before .before .before .args .file))
+put-requires : tie.Need-put-requires
+put-requires c κs = omega (arith, constant (c .before .before) .room, depthLimit-le (c .before .before .before .before .before .before .args .file))
 
 returns : tie.Need-returns
-returns c = let s = c .before .before .before .before .before .before .before in constant-steps (s .args .file) (envOf (s .args .vals .now)) (s .args .depth) (s .args .e .now) (s .args .at) (s .args .words .now) _ _ (s .pre .2) _ (constant (c .before .before .before)) (c .push .ensures .0) (c .push .ensures .1) (c .before .before .word-at .ensures)
+returns c = let s = c .before .before .before .before .before .before .before in constant-steps (s .args .file) (envOf (s .args .vals .now)) (s .args .depth) (s .args .e .now) (s .args .at) (s .args .words .now) _ _ (s .pre .2) _ (constant (c .before .before .before)) (c .put .ensures .0) (c .put .ensures .1) (c .before .before .word-at .ensures)
 
 symbol-code-requires : tie.Need-symbol-code-requires
 symbol-code-requires c κs = search needs
@@ -62,8 +62,8 @@ mul-w c = search needs
 shared-slice-read-w : tie.Need-shared-slice-read-w
 shared-slice-read-w c = ltb-true _ _ (subst (λ n. ltb n (length (c .before .before .before .before .before .before .before .before .args .vals .now)) ≡ true) (sym (c .before .symbol-at .ensures .0)) (symbol (c .before .before) .known))
 
-push-requires-2 : tie.Need-push-requires-2
-push-requires-2 c κs = omega (arith, symbol (c .before .before .before) .room, depthLimit-le (c .before .before .before .before .before .before .before .before .before .args .file))
+put-requires-2 : tie.Need-put-requires-2
+put-requires-2 c κs = omega (arith, symbol (c .before .before .before) .room, depthLimit-le (c .before .before .before .before .before .before .before .before .before .args .file))
 
 symbol-width-requires : tie.Need-symbol-width-requires
 symbol-width-requires c κs = search needs
@@ -73,7 +73,7 @@ add-t21 c = omega (arith, symbolWidth-le (c .before .before .before .before .bef
 
 returns-2 : tie.Need-returns-2
 returns-2 c = let s = c .before .before .before .before .before .before .before .before .before .before .before in
-    let k = symbol-steps (s .args .file) (envOf (s .args .vals .now)) (s .args .depth) (s .args .e .now) (s .args .at) (s .args .words .now) _ _ (s .pre .2) (may s) _ (c .before .before .before .before .symbol-at .result) (symbol (c .before .before .before .before .before)) (c .before .push2 .ensures .0) (c .before .push2 .ensures .1) refl (c .before .before .before .before .symbol-at .ensures .0) in
+    let k = symbol-steps (s .args .file) (envOf (s .args .vals .now)) (s .args .depth) (s .args .e .now) (s .args .at) (s .args .words .now) _ _ (s .pre .2) (may s) _ (c .before .before .before .before .symbol-at .result) (symbol (c .before .before .before .before .before)) (c .before .put2 .ensures .0) (c .before .put2 .ensures .1) refl (c .before .before .before .before .symbol-at .ensures .0) in
     (ap (λ n. n + 1) (c .symbol-width .ensures) ∙ k .0, k .1)
 
 apply-requires : tie.Need-apply-requires
@@ -89,14 +89,14 @@ step-at-spec =
     shared-slice-read-code
     add-word-at
     word-at-requires
-    push-requires
+    put-requires
     returns
     symbol-code-requires
     add-symbol-at
     symbol-at-requires
     mul-w
     shared-slice-read-w
-    push-requires-2
+    put-requires-2
     symbol-width-requires
     add-t21
     returns-2

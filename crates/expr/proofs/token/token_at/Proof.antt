@@ -5,8 +5,8 @@ use mathlib.Core.Path.{sym, ap, _∙_}
 use Rattle.expr.proofs.Reading.{constant-short, constant-there, symbol-short, symbol-there, operator-there, no-operator, some-operator}
 use Rattle.expr.specs.Shown.{shownToken}
 use borrow.Author.Needs.{needs}
-use Rattle.expr.proofs.token.read_token.Statement.{statement}
-use Rattle.expr.proofs.token.read_token.Tie as tie
+use Rattle.expr.proofs.token.token_at.Statement.{statement}
+use Rattle.expr.proofs.token.token_at.Tie as tie
 
 sub-left : tie.Need-sub-left
 sub-left c = search needs
@@ -56,8 +56,8 @@ returns-5 c = ap shownToken (sym (operator-there _ _ _ (c .before .before .befor
 returns-6 : tie.Need-returns-6
 returns-6 c = sym (ap shownToken (operator-there _ _ _ (c .before .before .before .before .before .before .before .pre) (c .before .before .before .before .if1 .left) (λ e. c .before .before .if3 .left (e ∙ sym (c .before .before .before .symbol-code .ensures)))) ∙ some-operator _ (λ e. c .if5 .left (c .before .pops .ensures ∙ e)))
 
-pub read-token-spec : {M : Type 1} → statement M
-read-token-spec =
+pub token-at-spec : {M : Type 1} → statement M
+token-at-spec =
     tie.close
     (tie.spec
     sub-left

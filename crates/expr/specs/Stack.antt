@@ -1,0 +1,20 @@
+-- The operand stack as a record: what pushing and popping make of it.
+use Prim.Native.Nat.{ℕ, _+_, _-_}
+use lib.ListN.{getD, set, replicate}
+use Rattle.expr.specs.declared.stack.Stack.{Stack}
+
+-- no word is held
+unfoldable pub emptyStack : Stack
+emptyStack = record { words = replicate 17 0; depth = 0 }
+
+-- the word stands behind those that are held
+abbrev pub pushedOn : Stack → (w : ℕ) → Stack
+pushedOn s w = record { words = set (s .words) (s .depth) w; depth = s .depth + 1 }
+
+-- the last word that is held
+abbrev pub topOf : Stack → ℕ
+topOf s = getD (s .words) (s .depth - 1) 0
+
+-- one word fewer is held
+abbrev pub withoutTop : Stack → Stack
+withoutTop s = record { words = s .words; depth = s .depth - 1 }
