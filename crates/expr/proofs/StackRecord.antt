@@ -46,13 +46,13 @@ abbrev τ : Ty
 τ = tyArray (tyInt w32) 17
 
 abbrev pub stack : List ℕ → ℕ → Stack
-stack ws d = record { words = ws; depth = d }
+stack ws d = record { depth = d; words = ws }
 
 abbrev pub words-val : List ℕ → Val
-words-val ws = T′.the-laws .0 .val ws
+words-val ws = T′.the-laws .1 .0 .val ws
 
 abbrev pub val : Stack → Val
-val s = vstruct (vcons (words-val (s .words)) (vcons (vint w64 (s .depth)) vnil))
+val s = vstruct (vcons (vint w64 (s .depth)) (vcons (words-val (s .words)) vnil))
 
 abbrev pub vals : Stack → List Val
 vals s = val s ∷ []
@@ -76,12 +76,12 @@ abbrev pub Fits : Stack → Type 0
 Fits s = AreWords (s .words) × (s .depth < 2 ^ 64)
 
 pub fields-fit : (s : Stack) (vs : List Val) → Is Record s vs → Fits s
-fields-fit s vs g = (subst AreWords (map-id (s .words)) (LL.owed T.the-type T′.the-laws s vs g .0), LL.owed T.the-type T′.the-laws s vs g .1 .0 .1)
+fields-fit s vs g = (subst AreWords (map-id (s .words)) (LL.owed T.the-type T′.the-laws s vs g .1 .0), LL.owed T.the-type T′.the-laws s vs g .0 .1)
 
 fitting : (s : Stack) → Fits s → Is Record s (vals s)
 fitting s g =
     subst (λ (v : Val). Is Record s (v ∷ [])) (val-is s)
-    (LL.owes T.the-type T′.the-laws s (subst AreWords (sym (map-id (s .words))) (g .0), ((refl, g .1), tt)))
+    (LL.owes T.the-type T′.the-laws s ((refl, g .1), (subst AreWords (sym (map-id (s .words))) (g .0), tt)))
 
 -- ---- the record's cell, behind a reference and as a local; the array and the record lent under the name δ; and the way from the array's cell back to the record's
 
@@ -92,13 +92,13 @@ abbrev pub local : Stack → (l : ℕ) → Fml
 local s l = fat fullShare T′.mir l 0 (val s)
 
 abbrev pub lent : List ℕ → (b o : ℕ) → GName → RefT (List ℕ)
-lent ws b o δ = record { ptr = (b, o + 0); name = δ; now = ws }
+lent ws b o δ = record { ptr = (b, o + 8); name = δ; now = ws }
 
 abbrev pub lent-whole : Stack → (l : ℕ) → GName → RefT Stack
 lent-whole s l δ = record { ptr = (l, 0); name = δ; now = s }
 
 abbrev Back : {M : Type 1} (𝓤 : URA M) (H : Heap 𝓤) (A : Atoms 𝓤) (d b o : ℕ) → Val → SProp 𝓤
-Back 𝓤 H A d b o u = wand 𝓤 (H .at fullShare τ b (o + 0) u) (sem 𝓤 H A (cellAt fullShare (Record .mir) (vstruct (vcons u (vcons (vint w64 d) vnil)) ∷ []) b o))
+Back 𝓤 H A d b o u = wand 𝓤 (H .at fullShare τ b (o + 8) u) (sem 𝓤 H A (cellAt fullShare (Record .mir) (vstruct (vcons (vint w64 d) (vcons u vnil)) ∷ []) b o))
 
 abbrev pub Way : {M : Type 1} (𝓤 : URA M) (H : Heap 𝓤) (A : Atoms 𝓤) (d b o : ℕ) → SProp 𝓤
 Way 𝓤 H A d b o = all 𝓤 (Back 𝓤 H A d b o)
@@ -115,30 +115,30 @@ module _ {M : Type 1} {𝓤 : URA M} {H : Heap 𝓤} {A : Atoms 𝓤} {K : Type 
       (‵ (cell s b o) ∷ ‵ (fobor κ q (Body (mem Record) b o γ)) ∷ ‵ (fobs γ u) ∷ ‵ (fauth γ v) ∷ Γ) G
   closes-stack t z s b o g = step (λ k. owned t Record (Is Record) (LL.makes T.the-type T′.the-plain 𝓤 H A) s _ (fitting s g) $ move t (1 ∷ 0 ∷ []) $ closes t z Record s (vals s) b o $ k)
 
-  pub takes-words : K → (s : Stack) (b o : ℕ) → Fits s → Step K W (‵ (mem Words .lies (s .words) b (o + 0)) ∷ raw (Way 𝓤 H A (s .depth) b o) ∷ Γ) G (‵ (cell s b o) ∷ Γ) G
+  pub takes-words : K → (s : Stack) (b o : ℕ) → Fits s → Step K W (‵ (mem Words .lies (s .words) b (o + 8)) ∷ raw (Way 𝓤 H A (s .depth) b o) ∷ Γ) G (‵ (cell s b o) ∷ Γ) G
   unfolding partOf
   takes-words t s b o g = step (λ k.
-      use1 W (‵ (fat fullShare τ b (o + 0) (words-val (s .words))) ⊛ raw (Way 𝓤 H A (s .depth) b o)) (sub {K = Unit {0}} {W = W} tt 0 refl (whole tt) .out) $ split t $
+      use1 W (‵ (fat fullShare τ b (o + 8) (words-val (s .words))) ⊛ raw (Way 𝓤 H A (s .depth) b o)) (sub {K = Unit {0}} {W = W} tt 1 refl (whole tt) .out) $ split t $
       owned t Words (Is Words) (array-makes 𝓤 H A W u32 (uint-makes 𝓤 H A W w32) 17) (s .words) _ (g .0) $ move t (1 ∷ 0 ∷ []) $ fjoin t $
-      fpack t (List Val) (λ us. fsep (cellAt fullShare (Words .mir) us b (o + 0)) (Words .own (s .words) us)) (words-val (s .words) ∷ []) $ k)
+      fpack t (List Val) (λ us. fsep (cellAt fullShare (Words .mir) us b (o + 8)) (Words .own (s .words) us)) (words-val (s .words) ∷ []) $ k)
 
-  pub gives-words : K → (ws : List ℕ) (d b o : ℕ) → (AreWords ws → Seq K W (‵ (cell (stack ws d) b o) ∷ Γ) G) → Seq K W (‵ (mem Words .lies ws b (o + 0)) ∷ raw (Way 𝓤 H A d b o) ∷ Γ) G
+  pub gives-words : K → (ws : List ℕ) (d b o : ℕ) → (AreWords ws → Seq K W (‵ (cell (stack ws d) b o) ∷ Γ) G) → Seq K W (‵ (mem Words .lies ws b (o + 8)) ∷ raw (Way 𝓤 H A d b o) ∷ Γ) G
   unfolding partOf
   gives-words t ws d b o k = fpick t (λ us. fsplit t $
-      spelt t Words (Is Words) (shows 𝓤 H A Words) (λ l. words-val l ∷ []) (T′.the-laws .0 .tells) fullShare ws us b (o + 0) $ move t (1 ∷ []) $
+      spelt t Words (Is Words) (shows 𝓤 H A Words) (λ l. words-val l ∷ []) (T′.the-laws .1 .0 .tells) fullShare ws us b (o + 8) $ move t (1 ∷ []) $
       peeks t Words (Is Words) (shows 𝓤 H A Words) ws (words-val ws ∷ []) (λ g. drop t $ move t (1 ∷ []) $ use1 W (raw (Back 𝓤 H A d b o (words-val ws))) (allE 𝓤 (Back 𝓤 H A d b o) (words-val ws)) $ move t (1 ∷ 0 ∷ []) $
-      use2 W (‵ (cell (stack ws d) b o)) (apply∗ 𝓤 (H .at fullShare τ b (o + 0) (words-val ws)) (sem 𝓤 H A (cell (stack ws d) b o))) $ k g))
+      use2 W (‵ (cell (stack ws d) b o)) (apply∗ 𝓤 (H .at fullShare τ b (o + 8) (words-val ws)) (sem 𝓤 H A (cell (stack ws d) b o))) $ k g))
 
   pub lends-words : K → Soaks G → (s : Stack) (b o : ℕ) → Fits s
-      → ((ν : ℕ) (δ : GName) → Seq K W (‵ (flft (ν ∷ []) fullShare) ∷ ‵ (MutRef (named 0) (ν ∷ []) Words .own (lent (s .words) b o δ) (vptr b (o + 0) ∷ [])) ∷ ‵ (flent (ν ∷ []) (Body (mem Words) b (o + 0) δ)) ∷ raw (Way 𝓤 H A (s .depth) b o) ∷ Γ) G)
+      → ((ν : ℕ) (δ : GName) → Seq K W (‵ (flft (ν ∷ []) fullShare) ∷ ‵ (MutRef (named 0) (ν ∷ []) Words .own (lent (s .words) b o δ) (vptr b (o + 8) ∷ [])) ∷ ‵ (flent (ν ∷ []) (Body (mem Words) b (o + 8) δ)) ∷ raw (Way 𝓤 H A (s .depth) b o) ∷ Γ) G)
       → Seq K W (‵ (cell s b o) ∷ Γ) G
   lends-words t z s b o g k = takes-words t s b o g $ lft-new t z (λ ν. move t (1 ∷ []) $
-      use1 W (later (some (λ (δ : GName). ‵ (MutRef (named 0) (ν ∷ []) Words .own (lent (s .words) b o δ) (vptr b (o + 0) ∷ [])) ⊛ ‵ (flent (ν ∷ []) (Body (mem Words) b (o + 0) δ)))))
-      (lends-ref 𝓤 H A W Words (named 0) (ν ∷ []) (s .words) b (o + 0)) $ await t z $ pick t (λ δ. split t $ move t (2 ∷ []) $ k ν δ))
+      use1 W (later (some (λ (δ : GName). ‵ (MutRef (named 0) (ν ∷ []) Words .own (lent (s .words) b o δ) (vptr b (o + 8) ∷ [])) ⊛ ‵ (flent (ν ∷ []) (Body (mem Words) b (o + 8) δ)))))
+      (lends-ref 𝓤 H A W Words (named 0) (ν ∷ []) (s .words) b (o + 8)) $ await t z $ pick t (λ δ. split t $ move t (2 ∷ []) $ k ν δ))
 
   pub words-back : K → Soaks G → {ν : ℕ} {δ : GName} (ws : List ℕ) (d b o : ℕ) → (AreWords ws → Seq K W (‵ (cell (stack ws d) b o) ∷ Γ) G)
-      → Seq K W (‵ (flft (ν ∷ []) fullShare) ∷ ‵ (flent (ν ∷ []) (Body (mem Words) b (o + 0) δ)) ∷ ‵ (fres δ (Words .coded .code ws)) ∷ raw (Way 𝓤 H A d b o) ∷ Γ) G
-  words-back t z {ν} {δ} ws d b o k = lft-end t z $ use3 W (later (‵ (mem Words .lies ws b (o + 0)))) (ref-back 𝓤 H A W Words (ν ∷ []) δ ws b (o + 0)) $ await t z $ gives-words t ws d b o k
+      → Seq K W (‵ (flft (ν ∷ []) fullShare) ∷ ‵ (flent (ν ∷ []) (Body (mem Words) b (o + 8) δ)) ∷ ‵ (fres δ (Words .coded .code ws)) ∷ raw (Way 𝓤 H A d b o) ∷ Γ) G
+  words-back t z {ν} {δ} ws d b o k = lft-end t z $ use3 W (later (‵ (mem Words .lies ws b (o + 8)))) (ref-back 𝓤 H A W Words (ν ∷ []) δ ws b (o + 8)) $ await t z $ gives-words t ws d b o k
 
   pub lends-stack : K → Soaks G → (s : Stack) (l : ℕ) → Fits s
       → ((ν : ℕ) (δ : GName) → Seq K W (‵ (flft (ν ∷ []) fullShare) ∷ ‵ (MutRef (named 0) (ν ∷ []) Record .own (lent-whole s l δ) (vptr l 0 ∷ [])) ∷ ‵ (flent (ν ∷ []) (Body (mem Record) l 0 δ)) ∷ Γ) G)

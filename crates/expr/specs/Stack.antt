@@ -5,11 +5,11 @@ use Rattle.expr.specs.declared.stack.Stack.{Stack}
 
 -- no word is held
 unfoldable pub emptyStack : Stack
-emptyStack = record { words = replicate 17 0; depth = 0 }
+emptyStack = record { depth = 0; words = replicate 17 0 }
 
 -- the word stands behind those that are held
 abbrev pub pushedOn : Stack → (w : ℕ) → Stack
-pushedOn s w = record { words = set (s .words) (s .depth) w; depth = s .depth + 1 }
+pushedOn s w = record { depth = s .depth + 1; words = set (s .words) (s .depth) w }
 
 -- the last word that is held
 abbrev pub topOf : Stack → ℕ
@@ -17,4 +17,4 @@ topOf s = getD (s .words) (s .depth - 1) 0
 
 -- one word fewer is held
 abbrev pub withoutTop : Stack → Stack
-withoutTop s = record { words = s .words; depth = s .depth - 1 }
+withoutTop s = record { depth = s .depth - 1; words = s .words }

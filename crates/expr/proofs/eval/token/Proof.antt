@@ -119,7 +119,7 @@ module _ {M : Type 1} (𝓤 : URA M) (H : Heap 𝓤) (A : Atoms 𝓤) (W : Given
         (q₁, (q₂, (fullShare, tt))),
         tt,
         passed δ,
-        (slice-val (d .rec) ∷ [], (vint w64 (d .at) ∷ [], (fileVal f ∷ [], (slice-val vals ∷ [], (vptr b (o + 0) ∷ [], (vint w64 (s .depth) ∷ [], tt)))))),
+        (slice-val (d .rec) ∷ [], (vint w64 (d .at) ∷ [], (fileVal f ∷ [], (slice-val vals ∷ [], (vptr b (o + 8) ∷ [], (vint w64 (s .depth) ∷ [], tt)))))),
       ),
       tt,
     )
@@ -129,9 +129,9 @@ module _ {M : Type 1} (𝓤 : URA M) (H : Heap 𝓤) (A : Atoms 𝓤) (W : Given
 
     module _ (d-typed : TypedReader (named 1) (readerVal d)) (vals-is : Is (ShrSlice (named 2) κ₂ u32) vals (slice-val vals ∷ [])) where
       goes-step : s .depth < 2 ^ 64 → Ready → (ν : ℕ) (δ : GName)
-          → ent 𝓤 (⋆ 𝓤 H A (‵ (flft κ₁ q₁) ∷ ‵ (flft κ₂ q₂) ∷ ‵ (flft (ν ∷ []) fullShare) ∷ ‵ Bytes ∷ ‵ Values ∷ ‵ (MutRef (named 0) (ν ∷ []) Words .own (lent (s .words) b o δ) (vptr b (o + 0) ∷ [])) ∷ [])) (StepAt .pre (to-step ν δ))
+          → ent 𝓤 (⋆ 𝓤 H A (‵ (flft κ₁ q₁) ∷ ‵ (flft κ₂ q₂) ∷ ‵ (flft (ν ∷ []) fullShare) ∷ ‵ Bytes ∷ ‵ Values ∷ ‵ (MutRef (named 0) (ν ∷ []) Words .own (lent (s .words) b o δ) (vptr b (o + 8) ∷ [])) ∷ [])) (StepAt .pre (to-step ν δ))
       goes-step d-fits ready ν δ =
-          qed W (‵ (flft κ₁ q₁) ∷ ‵ (flft κ₂ q₂) ∷ ‵ (flft (ν ∷ []) fullShare) ∷ ‵ Bytes ∷ ‵ Values ∷ ‵ (MutRef (named 0) (ν ∷ []) Words .own (lent (s .words) b o δ) (vptr b (o + 0) ∷ [])) ∷ []) ∵ says ! ready $
+          qed W (‵ (flft κ₁ q₁) ∷ ‵ (flft κ₂ q₂) ∷ ‵ (flft (ν ∷ []) fullShare) ∷ ‵ Bytes ∷ ‵ Values ∷ ‵ (MutRef (named 0) (ν ∷ []) Words .own (lent (s .words) b o δ) (vptr b (o + 8) ∷ [])) ∷ []) ∵ says ! ready $
           nothing ! $ move ! (3 ∷ 0 ∷ []) $ join ! $ move ! (2 ∷ 0 ∷ []) $ join ! $ move ! (1 ∷ 0 ∷ []) $ join ! $ frame ! $
           nothing ! $ owned ! usize (Is usize) (uint-makes 𝓤 H A W w64) (s .depth) _ (refl, d-fits) $ fjoin ! $ move ! (3 ∷ 0 ∷ []) $ fjoin ! $ move ! (2 ∷ 0 ∷ []) $ fjoin ! $
           use0 W (‵ (OwnFile f)) (file-owned 𝓤 H A W f) $ fjoin ! $ owned ! usize (Is usize) (uint-makes 𝓤 H A W w64) (d .at) _ (refl, d-typed .1 .1 .0 .fits) $ fjoin ! $ move ! (1 ∷ 0 ∷ []) $ fjoin ! $ done !
@@ -160,7 +160,7 @@ module _ {M : Type 1} (𝓤 : URA M) (H : Heap 𝓤) (A : Atoms 𝓤) (W : Given
           -- [_9; …; _8; …; _7; …; _6; …; _5; …; _4; …; _3; …; _2; …; _1; …; _0; …; obs; the borrow; κ; the bytes; the values; κ₁; κ₂; the reader; the values]
           move ! (20 ∷ 21 ∷ 22 ∷ []) $ opens-stack ! tt s b o (λ g.
           -- [the record's cell; the open borrow; obs; auth; _9; …; _8; …; _7; …; _6; …; _5; …; _4; …; _3; …; _2; …; _1; …; _0; …; the bytes; the values; κ₁; κ₂; the reader; the values]
-          assigns ! (of-opd ! (load ! (from ! (hop ! (look ! 20 refl) (fld ! refl (stop !)))) (look-in ! 0 (sub ! 1 refl (whole !))))) (from ! (stop !)) (init ! 12 refl (tt, record { fits = g .1 })) $
+          assigns ! (of-opd ! (load ! (from ! (hop ! (look ! 20 refl) (fld ! refl (stop !)))) (look-in ! 0 (sub ! 0 refl (whole !))))) (from ! (stop !)) (init ! 12 refl (tt, record { fits = g .1 })) $
           assigns ! (of-opd ! (load ! (from ! (fld ! refl (stop !))) (look-in ! 18 (sub ! 0 refl (whole !))))) (from ! (stop !)) (init ! 8 refl (tt, d-typed .1 .0)) $
           assigns ! (of-opd ! (load ! (from ! (fld ! refl (stop !))) (look-in ! 18 (sub ! 1 refl (whole !))))) (from ! (stop !)) (init ! 6 refl (tt, d-typed .1 .1 .0)) $
           assigns ! (addr ! (from ! (hop ! (look ! 20 refl) (fld ! refl (stop !))))) (from ! (stop !)) (init ! 4 refl (tt, tt)) $
@@ -178,7 +178,7 @@ module _ {M : Type 1} (𝓤 : URA M) (H : Heap 𝓤) (A : Atoms 𝓤) (W : Given
           land ! (from ! (stop !)) (init ! 17 refl (LL.lawful T.the-type T′.the-laws 𝓤 H A W .typed r _ is .0)) $ rewrite ! 17 (λ (u : Val). ‵ (fat fullShare T′.mir l₆ 0 u)) (ap only (LL.tells T.the-type T′.the-laws r (w ∷ []) is)) refl $
           move ! (0 ∷ 6 ∷ 4 ∷ 7 ∷ []) $ words-back ! tt (zs .1 .1 .1 .1 .0) (s .depth) b o (λ gz.
           -- [the record's cell; …; κ₂; κ₁; …; the open borrow; obs; auth; _9; …; _8; …; _7; …; _6; …; _5; …; _4; …; _3; …; _2; …; _1; …; _0; …; the reader; the values]
-          assigns ! (of-opd ! (load ! (from ! (fld ! refl (stop !))) (look-in ! 14 (sub ! 0 refl (whole !))))) (from ! (hop ! (look ! 24 refl) (fld ! refl (stop !)))) (store-in ! 0 (sub ! 1 refl (whole !)) (tt, record { fits = LL.owed T.the-type T′.the-laws r _ is .0 .1 })) $
+          assigns ! (of-opd ! (load ! (from ! (fld ! refl (stop !))) (look-in ! 14 (sub ! 0 refl (whole !))))) (from ! (hop ! (look ! 24 refl) (fld ! refl (stop !)))) (store-in ! 0 (sub ! 0 refl (whole !)) (tt, record { fits = LL.owed T.the-type T′.the-laws r _ is .0 .1 })) $
           assigns ! (of-opd ! (load ! (from ! (fld ! refl (stop !))) (look-in ! 14 (sub ! 1 refl (whole !))))) (from ! (stop !)) (init ! 26 refl (tt, record { fits = LL.owed T.the-type T′.the-laws r _ is .1 .0 .1 })) $
           move ! (0 ∷ 5 ∷ 6 ∷ 7 ∷ []) $ closes-stack ! tt (stack (zs .1 .1 .1 .1 .0) (r .depth)) b o (gz, LL.owed T.the-type T′.the-laws r _ is .0 .1) $
           -- [obs; the borrow; κ; …; κ₂; κ₁; …; _9; …; _8; …; _7; …; _6; …; _5; …; _4; …; _3; …; _2; …; _1; …; _0; …; the reader; the values]

@@ -72,15 +72,15 @@ module _ {M : Type 1} (𝓤 : URA M) (H : Heap 𝓤) (A : Atoms 𝓤) (W : Given
 
     -- what `word_at_top` is passed, and what it says of its result
     abbrev to-top : ℕ → GName → Top .Ghost
-    to-top ν δ = (((ν ∷ [], tt), (fullShare, tt), tt, (lent (s .words) b o δ, (s .depth, tt)), (vptr b (o + 0) ∷ [], (vint w64 (s .depth) ∷ [], tt))), tt)
+    to-top ν δ = (((ν ∷ [], tt), (fullShare, tt), tt, (lent (s .words) b o δ, (s .depth, tt)), (vptr b (o + 8) ∷ [], (vint w64 (s .depth) ∷ [], tt))), tt)
 
     told : (ν : ℕ) (δ : GName) (r : ℕ) → ent 𝓤 (ensured 𝓤 H A top.ended (top.clauses 𝓤 H A at-mem run) (ν ∷ [], tt) (lent (s .words) b o δ, (s .depth, tt)) tt r) (fact 𝓤 (r ≡ topOf s))
     told ν δ r = exE 𝓤 _ (λ zs. snd∗ 𝓤 (sem 𝓤 H A (lasts top.ended (ν ∷ [], tt) (lent (s .words) b o δ, (s .depth, tt)) zs)) (fact 𝓤 (r ≡ topOf s)))
 
     goes-top : s .depth < 2 ^ 64 → (0 < s .depth) × (s .depth ≤ 17) → (ν : ℕ) (δ : GName)
-        → ent 𝓤 (⋆ 𝓤 H A (‵ (flft (ν ∷ []) fullShare) ∷ ‵ (ShrRef (named 0) (ν ∷ []) Words .own (lent (s .words) b o δ) (vptr b (o + 0) ∷ [])) ∷ [])) (Top .pre (to-top ν δ))
+        → ent 𝓤 (⋆ 𝓤 H A (‵ (flft (ν ∷ []) fullShare) ∷ ‵ (ShrRef (named 0) (ν ∷ []) Words .own (lent (s .words) b o δ) (vptr b (o + 8) ∷ [])) ∷ [])) (Top .pre (to-top ν δ))
     goes-top d-fits some-word ν δ =
-        qed W (‵ (flft (ν ∷ []) fullShare) ∷ ‵ (ShrRef (named 0) (ν ∷ []) Words .own (lent (s .words) b o δ) (vptr b (o + 0) ∷ [])) ∷ []) ∵ says ! some-word $ nothing ! $ move ! (1 ∷ 0 ∷ []) $ join ! $ frame ! $
+        qed W (‵ (flft (ν ∷ []) fullShare) ∷ ‵ (ShrRef (named 0) (ν ∷ []) Words .own (lent (s .words) b o δ) (vptr b (o + 8) ∷ [])) ∷ []) ∵ says ! some-word $ nothing ! $ move ! (1 ∷ 0 ∷ []) $ join ! $ frame ! $
         nothing ! $ owned ! usize (Is usize) (uint-makes 𝓤 H A W w64) (s .depth) _ (refl, d-fits) $ fjoin ! $ move ! (1 ∷ 0 ∷ []) $ fjoin ! $ done !
 
     exits : (r : ℕ) (v : Val) → Is u32 r (v ∷ []) → r ≡ topOf s → ent 𝓤 (⋆ 𝓤 H A (‵ (fobs γ (Record .coded .code (withoutTop s))) ∷ ‵ (fbor κ (Body (mem Record) b o γ)) ∷ ‵ (flft κ q) ∷ [])) (Post v)
@@ -98,11 +98,11 @@ module _ {M : Type 1} (𝓤 : URA M) (H : Heap 𝓤) (A : Atoms 𝓤) (W : Given
         -- [_5; …; _4; …; _3; …; _2; …; _1; …; _0; …; obs; the borrow; the token]
         move ! (12 ∷ 13 ∷ 14 ∷ []) $ opens-stack ! tt s b o (λ g.
         -- [the record's cell; the open borrow; obs; auth; _5; …; _4; …; _3; …; _2; …; _1; …; _0; …]
-        assigns ! (of-opd ! (load ! (from ! (hop ! (look ! 12 refl) (fld ! refl (stop !)))) (look-in ! 0 (sub ! 1 refl (whole !))))) (from ! (stop !)) (init ! 10 refl (tt, record { fits = g .1 })) $
+        assigns ! (of-opd ! (load ! (from ! (hop ! (look ! 12 refl) (fld ! refl (stop !)))) (look-in ! 0 (sub ! 0 refl (whole !))))) (from ! (stop !)) (init ! 10 refl (tt, record { fits = g .1 })) $
         assigns ! (addr ! (from ! (hop ! (look ! 12 refl) (fld ! refl (stop !))))) (from ! (stop !)) (init ! 6 refl (tt, tt)) $
         takes-words ! s b o g $ lft-new ! tt (λ ν. move ! (1 ∷ []) $
-        use1 W (later (some (λ (δ : GName). ‵ (ShrRef (named 0) (ν ∷ []) Words .own (lent (s .words) b o δ) (vptr b (o + 0) ∷ [])) ⊛ ‵ (flent (ν ∷ []) (partAt Words fullShare (s .words) b (o + 0))))))
-        (lends-shr 𝓤 H A W Words (named 0) (ν ∷ []) fullShare (s .words) b (o + 0)) $ await ! tt $ pick ! (λ δ. split ! $ move ! (2 ∷ 0 ∷ []) $ use2 W (raw (Top .pre (to-top ν δ))) (goes-top (g .1) some-word ν δ) $
+        use1 W (later (some (λ (δ : GName). ‵ (ShrRef (named 0) (ν ∷ []) Words .own (lent (s .words) b o δ) (vptr b (o + 8) ∷ [])) ⊛ ‵ (flent (ν ∷ []) (partAt Words fullShare (s .words) b (o + 8))))))
+        (lends-shr 𝓤 H A W Words (named 0) (ν ∷ []) fullShare (s .words) b (o + 8)) $ await ! tt $ pick ! (λ δ. split ! $ move ! (2 ∷ 0 ∷ []) $ use2 W (raw (Top .pre (to-top ν δ))) (goes-top (g .1) some-word ν δ) $
         -- [pre; the lender's part; the way; the open borrow; obs; auth; _5; …; _4; …; _3; …; _2; …; _1; …; _0; …]
         calls-at ! (fmOf 𝓤 H (W .laws) 𝓣) Top known (to-top ν δ) (and-then ! (load ! (from ! (stop !)) (look ! 8 refl)) (and-then ! (load ! (from ! (stop !)) (look ! 12 refl)) (no-more !))) (λ v.
         use1 W (later (some (λ (r : ℕ). ((‵ (flft (ν ∷ []) fullShare) ⊛ ‵ ftrue) ⊛ ‵ (u32 .own r (v ∷ []))) ⊛ raw (ensured 𝓤 H A top.ended (top.clauses 𝓤 H A at-mem run) (ν ∷ [], tt) (lent (s .words) b o δ, (s .depth, tt)) tt r)))) (id⊢ 𝓤 _) $ await ! tt $ pick ! (λ r.
@@ -112,7 +112,7 @@ module _ {M : Type 1} (𝓤 : URA M) (H : Heap 𝓤) (A : Atoms 𝓤) (W : Given
         lft-end ! tt $ move ! (0 ∷ 2 ∷ []) $ lent-back ! tt $ move ! (0 ∷ 2 ∷ []) $ gives-words ! (s .words) (s .depth) b o (λ _.
         -- [the record's cell; …; the open borrow; obs; auth; _5; …; _4; …; _3; …; _2; …; _1; …; _0; …]
         assigns ! (bin ! (load ! (from ! (stop !)) (look ! 11 refl)) (lit ! tt) (some-word .0)) (from ! (stop !)) (init ! 5 refl (tt, record { fits = less (g .1) })) $
-        assigns ! (of-opd ! (load ! (from ! (stop !)) (look ! 5 refl))) (from ! (hop ! (look ! 13 refl) (fld ! refl (stop !)))) (store-in ! 0 (sub ! 1 refl (whole !)) (tt, record { fits = less (g .1) })) $
+        assigns ! (of-opd ! (load ! (from ! (stop !)) (look ! 5 refl))) (from ! (hop ! (look ! 13 refl) (fld ! refl (stop !)))) (store-in ! 0 (sub ! 0 refl (whole !)) (tt, record { fits = less (g .1) })) $
         assigns ! (of-opd ! (load ! (from ! (stop !)) (look ! 9 refl))) (from ! (stop !)) (init ! 15 refl (uint-lawful 𝓤 H A W w32 .typed r _ is .0)) $
         move ! (0 ∷ 2 ∷ 3 ∷ 4 ∷ []) $ closes-stack ! tt (withoutTop s) b o (g .0, less (g .1)) $
         -- [obs; the borrow; the token; …; _5; …; _4; …; _3; …; _2; …; _1; …; _0; …]

@@ -70,15 +70,15 @@ module _ {M : Type 1} (𝓤 : URA M) (H : Heap 𝓤) (A : Atoms 𝓤) (W : Given
 
     -- what `put` is passed, and what it says of its result r and of the array zs that it leaves
     abbrev to-put : ℕ → GName → Put .Ghost
-    to-put ν δ = (((ν ∷ [], tt), (fullShare, tt), tt, (lent (s .words) b o δ, (s .depth, (n, tt))), (vptr b (o + 0) ∷ [], (vint w64 (s .depth) ∷ [], (vint w32 n ∷ [], tt)))), tt)
+    to-put ν δ = (((ν ∷ [], tt), (fullShare, tt), tt, (lent (s .words) b o δ, (s .depth, (n, tt))), (vptr b (o + 8) ∷ [], (vint w64 (s .depth) ∷ [], (vint w32 n ∷ [], tt)))), tt)
 
     abbrev Told : ℕ → List ℕ → Type 0
     Told r zs = (r ≡ s .depth + 1) × (zs ≡ set (s .words) (s .depth) n)
 
     goes-put : s .depth < 2 ^ 64 → s .depth < 17 → (ν : ℕ) (δ : GName)
-        → ent 𝓤 (⋆ 𝓤 H A (‵ (flft (ν ∷ []) fullShare) ∷ ‵ (MutRef (named 0) (ν ∷ []) Words .own (lent (s .words) b o δ) (vptr b (o + 0) ∷ [])) ∷ [])) (Put .pre (to-put ν δ))
+        → ent 𝓤 (⋆ 𝓤 H A (‵ (flft (ν ∷ []) fullShare) ∷ ‵ (MutRef (named 0) (ν ∷ []) Words .own (lent (s .words) b o δ) (vptr b (o + 8) ∷ [])) ∷ [])) (Put .pre (to-put ν δ))
     goes-put d-fits room ν δ =
-        qed W (‵ (flft (ν ∷ []) fullShare) ∷ ‵ (MutRef (named 0) (ν ∷ []) Words .own (lent (s .words) b o δ) (vptr b (o + 0) ∷ [])) ∷ []) ∵ says ! room $ nothing ! $ move ! (1 ∷ 0 ∷ []) $ join ! $ frame ! $
+        qed W (‵ (flft (ν ∷ []) fullShare) ∷ ‵ (MutRef (named 0) (ν ∷ []) Words .own (lent (s .words) b o δ) (vptr b (o + 8) ∷ [])) ∷ []) ∵ says ! room $ nothing ! $ move ! (1 ∷ 0 ∷ []) $ join ! $ frame ! $
         nothing ! $ owned ! u32 (Is u32) (uint-makes 𝓤 H A W w32) n _ (refl, n-fits) $ fjoin ! $ owned ! usize (Is usize) (uint-makes 𝓤 H A W w64) (s .depth) _ (refl, d-fits) $ fjoin ! $ move ! (1 ∷ 0 ∷ []) $ fjoin ! $ done !
 
     exits : (r : ℕ) (zs : List ℕ) → Told r zs → ent 𝓤 (⋆ 𝓤 H A (‵ (fobs γ (Record .coded .code (stack zs r))) ∷ ‵ (fbor κ (Body (mem Record) b o γ)) ∷ ‵ (flft κ q) ∷ [])) (Post vunit)
@@ -97,7 +97,7 @@ module _ {M : Type 1} (𝓤 : URA M) (H : Heap 𝓤) (A : Atoms 𝓤) (W : Given
         -- [_5; …; _4; …; _3; …; _2; …; _1; …; _0; …; obs; the borrow; the token]
         move ! (12 ∷ 13 ∷ 14 ∷ []) $ opens-stack ! tt s b o (λ g.
         -- [the record's cell; the open borrow; obs; auth; _5; …; _4; …; _3; …; _2; …; _1; …; _0; …]
-        assigns ! (of-opd ! (load ! (from ! (hop ! (look ! 12 refl) (fld ! refl (stop !)))) (look-in ! 0 (sub ! 1 refl (whole !))))) (from ! (stop !)) (init ! 8 refl (tt, record { fits = g .1 })) $
+        assigns ! (of-opd ! (load ! (from ! (hop ! (look ! 12 refl) (fld ! refl (stop !)))) (look-in ! 0 (sub ! 0 refl (whole !))))) (from ! (stop !)) (init ! 8 refl (tt, record { fits = g .1 })) $
         assigns ! (addr ! (from ! (hop ! (look ! 12 refl) (fld ! refl (stop !))))) (from ! (stop !)) (init ! 4 refl (tt, tt)) $
         lends-words ! tt s b o g (λ ν δ. use2 W (raw (Put .pre (to-put ν δ))) (goes-put (g .1) room ν δ) $
         -- [pre; the lender's part; the way; the open borrow; obs; auth; _5; …; _4; …; _3; …; _2; …; _1; …; _0; …]
@@ -109,7 +109,7 @@ module _ {M : Type 1} (𝓤 : URA M) (H : Heap 𝓤) (A : Atoms 𝓤) (W : Given
         land ! (from ! (stop !)) (init ! 11 refl (uint-lawful 𝓤 H A W w64 .typed r _ is .0)) $ rewrite ! 11 (λ (u : Val). ‵ (fat fullShare (tyInt w64) l₄ 0 u)) (ap only (is .0)) refl $
         move ! (0 ∷ 4 ∷ 2 ∷ 5 ∷ []) $ words-back ! tt (zs .0) (s .depth) b o (λ gz.
         -- [the record's cell; …; …; the open borrow; obs; auth; _5; …; _4; …; _3; …; _2; …; _1; …; _0; …]
-        assigns ! (of-opd ! (load ! (from ! (stop !)) (look ! 8 refl))) (from ! (hop ! (look ! 14 refl) (fld ! refl (stop !)))) (store-in ! 0 (sub ! 1 refl (whole !)) (tt, record { fits = is .1 })) $
+        assigns ! (of-opd ! (load ! (from ! (stop !)) (look ! 8 refl))) (from ! (hop ! (look ! 14 refl) (fld ! refl (stop !)))) (store-in ! 0 (sub ! 0 refl (whole !)) (tt, record { fits = is .1 })) $
         assigns ! (of-opd ! (unit-lit !)) (from ! (stop !)) (init ! 16 refl (tt, tt)) $
         move ! (0 ∷ 3 ∷ 4 ∷ 5 ∷ []) $ closes-stack ! tt (stack (zs .0) r) b o (gz, is .1) $
         -- [obs; the borrow; the token; …; …; _5; …; _4; …; _3; …; _2; …; _1; …; _0; …]
