@@ -4,6 +4,7 @@
 
 use std::collections::BTreeMap;
 use std::env;
+use std::iter;
 
 use crate::case::Case;
 use crate::cases::Known;
@@ -15,23 +16,30 @@ pub fn hold_known<C: Case>(call: fn(&C) -> C::Answer, known: Vec<Known<C>>) {
     }
 }
 
-/// Asks of the generated cases what is due, each feature in one of so many cases.
+/// One of so many generated cases has to have each reply.
+const REPLY_RARITY: u64 = 500;
+
+/// Asks of the generated cases what is due: each of the replies, as the feature "reply 5", and each feature in one of so many cases.
 pub fn hold_features<C: Case>(
     count: u64,
     generate: fn(u64) -> C,
     features: fn(&C, C::Answer) -> Vec<String>,
+    replies: &[u32],
     due: &[(&str, u64)],
 ) {
     let mut hits = BTreeMap::new();
     for case in seeds(count).map(generate) {
-        for feature in features(&case, case.model()) {
+        let answer = case.model();
+        let reply = format!("reply {}", C::reply(&answer));
+        for feature in iter::once(reply).chain(features(&case, answer)) {
             *hits.entry(feature).or_insert(0) += 1;
         }
     }
     println!("{hits:#?}");
-    for (feature, rarity) in due {
+    let replies = replies.iter().map(|reply| (format!("reply {reply}"), REPLY_RARITY));
+    for (feature, rarity) in replies.chain(due.iter().map(|(feature, rarity)| (feature.to_string(), *rarity))) {
         let least = case_count(count) / rarity;
-        let hits = hits.get(*feature).copied().unwrap_or(0);
+        let hits = hits.get(&feature).copied().unwrap_or(0);
         assert!(hits >= least, "{feature}: {hits} cases, fewer than {least}");
     }
 }

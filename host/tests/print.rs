@@ -13,16 +13,11 @@ use host::program::Printed;
 /// How many cases are generated for a test; each starts the program.
 const CASES: u64 = 3_000;
 
-/// What generated cases have to show, one in so many. No byte K is refused 8.
-const DUE: [(&str, u64); 36] = [
-    ("refused 1", 500),
-    ("refused 2", 500),
-    ("refused 3", 500),
-    ("refused 4", 500),
-    ("refused 5", 500),
-    ("refused 6", 500),
-    ("refused 7", 500),
-    ("refused 9", 500),
+/// The replies that generated cases have to reach. No byte K is refused 8.
+const REPLIES: [u32; 8] = [1, 2, 3, 4, 5, 6, 7, 9];
+
+/// What generated cases have to show, one in so many.
+const DUE: [(&str, u64); 28] = [
     ("printed", 10),
     ("printed, assign", 10),
     ("printed, assume", 10),
@@ -125,7 +120,7 @@ fn the_longest_text_known_is_327416_bytes_long() {
 
 #[test]
 fn the_generated_cases_reach_every_refusal_that_can_be_every_kind_and_every_name() {
-    hold_features(CASES, generate::print_case, features, &DUE);
+    hold_features(CASES, generate::print_case, features, &REPLIES, &DUE);
 }
 
 #[test]
@@ -153,9 +148,8 @@ fn is_text_of(slice: &[u8], text: &[u8]) -> bool {
 
 /// What a case shows, in the words of `DUE`.
 fn features(case: &PrintCase, printed: Printed) -> Vec<String> {
-    let reply = PrintCase::reply(&printed);
-    if reply != 0 {
-        return vec![format!("refused {reply}")];
+    if PrintCase::reply(&printed) != 0 {
+        return vec![];
     }
     let text = String::from_utf8(printed.text).expect("a text");
     let more = printed_features(case, &text).into_iter().map(|feature| format!("printed, {feature}")).collect();

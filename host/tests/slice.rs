@@ -18,17 +18,12 @@ const ASSERT: u8 = 3;
 /// How many cases are generated for a test.
 const CASES: u64 = 40_000;
 
+/// The replies that generated cases have to reach.
+const REPLIES: [u32; 8] = [1, 2, 3, 4, 5, 6, 7, 10];
+
 /// What generated cases have to show, one in so many.
-const DUE: [(&str, u64); 31] = [
+const DUE: [(&str, u64); 23] = [
     ("reply 0", 10),
-    ("reply 1", 500),
-    ("reply 2", 500),
-    ("reply 3", 500),
-    ("reply 4", 500),
-    ("reply 5", 500),
-    ("reply 6", 500),
-    ("reply 7", 500),
-    ("reply 10", 500),
     ("reply 10, no room", 500),
     ("reply 10, a byte too little room", 500),
     ("reply 0, the exact room", 500),
@@ -126,7 +121,7 @@ fn the_small_rules_slice_has_102_bytes_and_reads_its_input() {
 
 #[test]
 fn the_generated_cases_reach_every_reply_every_kind_of_room_and_what_is_kept() {
-    hold_features(CASES, generate::slice_case, features, &DUE);
+    hold_features(CASES, generate::slice_case, features, &REPLIES, &DUE);
 }
 
 #[test]
@@ -136,7 +131,7 @@ fn the_archive_gives_the_models_answer_and_bytes_on_every_case() {
 
 #[test]
 fn the_generated_judgements_reach_both_verdicts_and_inputs_that_slices_do_not_read() {
-    hold_features(CASES, generate::sliced_judge_case, judged_features, &JUDGED_DUE);
+    hold_features(CASES, generate::sliced_judge_case, judged_features, &[], &JUDGED_DUE);
 }
 
 #[test]
@@ -171,8 +166,7 @@ fn features(case: &SliceCase, written: Written<SliceAnswer>) -> Vec<String> {
         10 => vec![fit(case.room, model_slice(&case.trace).len())],
         _ => vec![],
     };
-    let more = more.into_iter().map(|feature| format!("{reply}, {feature}")).collect();
-    [vec![reply.clone()], more].concat()
+    more.into_iter().map(|feature| format!("{reply}, {feature}")).collect()
 }
 
 fn sliced_features(case: &SliceCase, answer: SliceAnswer) -> Vec<&'static str> {

@@ -11,21 +11,14 @@ use host::written::{fit, whole, Written, LENGTH_LIMIT};
 /// How many cases are generated for a test.
 const CASES: u64 = 80_000;
 
+/// The replies that generated cases have to reach.
+const REPLIES: [u32; 10] = [1, 2, 3, 4, 5, 6, 7, 8, 9, 10];
+
 /// What generated cases have to show, one in so many.
-const DUE: [(&str, u64); 26] = [
+const DUE: [(&str, u64); 16] = [
     ("reply 0", 10),
-    ("reply 1", 500),
-    ("reply 2", 500),
-    ("reply 3", 500),
-    ("reply 4", 500),
-    ("reply 5", 500),
-    ("reply 6", 500),
-    ("reply 7", 500),
-    ("reply 8", 500),
-    ("reply 9", 500),
     ("reply 9, over 4,096 statements", 500),
     ("reply 9, at most 4,096 statements", 500),
-    ("reply 10", 500),
     ("reply 10, a byte too little room", 500),
     ("reply 10, no room", 500),
     ("reply 0, K: 0", 500),
@@ -48,7 +41,7 @@ const RUNS_DUE: [(&str, u64); 6] = [
     ("safe, a bound above 0 used up", 500),
     ("unsafe", 20),
     ("unsafe, back jumps taken", 100),
-    ("refused 11", 100),
+    ("a trace, refused 11", 100),
 ];
 
 #[test]
@@ -128,7 +121,7 @@ fn a_table_of_1024_asserts_has_2051_statements_in_47172_bytes_for_one_back_jump(
 
 #[test]
 fn the_generated_cases_reach_every_reply_every_kind_of_room_and_both_limits() {
-    hold_features(CASES, generate::trace_case, features, &DUE);
+    hold_features(CASES, generate::trace_case, features, &REPLIES, &DUE);
 }
 
 #[test]
@@ -138,7 +131,7 @@ fn the_archive_gives_the_models_answer_and_bytes_on_every_case() {
 
 #[test]
 fn the_generated_runs_with_a_trace_reach_both_verdicts_and_later_copies() {
-    hold_features(CASES, generate::run_case, run_features, &RUNS_DUE);
+    hold_features(CASES, generate::run_case, run_features, &[], &RUNS_DUE);
 }
 
 #[test]
@@ -168,8 +161,7 @@ fn features(case: &TraceCase, written: Written<TraceAnswer>) -> Vec<String> {
         10 => vec![fit(case.room, model_trace(&case.table, case.bound).len())],
         _ => vec![],
     };
-    let more = more.into_iter().map(|feature| format!("{reply}, {feature}")).collect();
-    [vec![reply.clone()], more].concat()
+    more.into_iter().map(|feature| format!("{reply}, {feature}")).collect()
 }
 
 fn written_features(case: &TraceCase, length: usize) -> Vec<&'static str> {
@@ -207,7 +199,7 @@ fn run_features(case: &RunCase, answer: RunAnswer) -> Vec<String> {
         return vec!["no trace".into()];
     }
     if answer.reply != 0 {
-        return vec![format!("refused {}", answer.reply)];
+        return vec![format!("a trace, refused {}", answer.reply)];
     }
     let verdict = if answer.verdict == 0 { "safe" } else { "unsafe" };
     let mut features = vec![verdict.into()];
