@@ -2,7 +2,7 @@
 --     opens-stack, closes-stack    the borrow is opened, which leaves the record's cell at hand, and closed at what the record holds then
 --     takes-words, gives-words     the array is taken out of the record's cell, and put back with whatever it holds then
 --     lends-words, words-back      the array is taken out and lent for the time of a call, and comes back with what the callee left in it
---     lends-stack, stack-back      the record in a local is lent for the time of a call, and comes back likewise
+--     lends-record, record-back    the whole record is lent for the time of a call, and comes back likewise; lends-local, local-back where it is a local
 use mathlib.Core.Path.{_≡_, refl, sym, ap, _∙_, subst}
 use Prim.Native.Nat.{ℕ, _<_, _^_, _+_}
 use mathlib.Core.List.{[], _∷_, List, map}
@@ -94,8 +94,8 @@ local s l = fat fullShare T′.mir l 0 (val s)
 abbrev pub lent : List ℕ → (b o : ℕ) → GName → RefT (List ℕ)
 lent ws b o δ = record { ptr = (b, o + 8); name = δ; now = ws }
 
-abbrev pub lent-whole : Stack → (l : ℕ) → GName → RefT Stack
-lent-whole s l δ = record { ptr = (l, 0); name = δ; now = s }
+abbrev pub lent-whole : Stack → (b o : ℕ) → GName → RefT Stack
+lent-whole s b o δ = record { ptr = (b, o); name = δ; now = s }
 
 abbrev Back : {M : Type 1} (𝓤 : URA M) (H : Heap 𝓤) (A : Atoms 𝓤) (d b o : ℕ) → Val → SProp 𝓤
 Back 𝓤 H A d b o u = wand 𝓤 (H .at fullShare τ b (o + 8) u) (sem 𝓤 H A (cellAt fullShare (Record .mir) (vstruct (vcons (vint w64 d) (vcons u vnil)) ∷ []) b o))
@@ -140,20 +140,28 @@ module _ {M : Type 1} {𝓤 : URA M} {H : Heap 𝓤} {A : Atoms 𝓤} {K : Type 
       → Seq K W (‵ (flft (ν ∷ []) fullShare) ∷ ‵ (flent (ν ∷ []) (Body (mem Words) b (o + 8) δ)) ∷ ‵ (fres δ (Words .coded .code ws)) ∷ raw (Way 𝓤 H A d b o) ∷ Γ) G
   words-back t z {ν} {δ} ws d b o k = lft-end t z $ use3 W (later (‵ (mem Words .lies ws b (o + 8)))) (ref-back 𝓤 H A W Words (ν ∷ []) δ ws b (o + 8)) $ await t z $ gives-words t ws d b o k
 
-  pub lends-stack : K → Soaks G → (s : Stack) (l : ℕ) → Fits s
-      → ((ν : ℕ) (δ : GName) → Seq K W (‵ (flft (ν ∷ []) fullShare) ∷ ‵ (MutRef (named 0) (ν ∷ []) Record .own (lent-whole s l δ) (vptr l 0 ∷ [])) ∷ ‵ (flent (ν ∷ []) (Body (mem Record) l 0 δ)) ∷ Γ) G)
-      → Seq K W (‵ (local s l) ∷ Γ) G
+  pub lends-record : K → Soaks G → (s : Stack) (b o : ℕ) → Fits s
+      → ((ν : ℕ) (δ : GName) → Seq K W (‵ (flft (ν ∷ []) fullShare) ∷ ‵ (MutRef (named 0) (ν ∷ []) Record .own (lent-whole s b o δ) (vptr b o ∷ [])) ∷ ‵ (flent (ν ∷ []) (Body (mem Record) b o δ)) ∷ Γ) G)
+      → Seq K W (‵ (cell s b o) ∷ Γ) G
   unfolding partOf
-  lends-stack t z s l g k =
-      use1 W (‵ (cell s l 0)) (W .laws .at-raw fullShare T′.mir l 0 (val s)) $ owned t Record (Is Record) (LL.makes T.the-type T′.the-plain 𝓤 H A) s _ (fitting s g) $ move t (1 ∷ 0 ∷ []) $ fjoin t $
-      fpack t (List Val) (λ us. fsep (cellAt fullShare (Record .mir) us l 0) (Record .own s us)) (vals s) $ lft-new t z (λ ν. move t (1 ∷ []) $
-      use1 W (later (some (λ (δ : GName). ‵ (MutRef (named 0) (ν ∷ []) Record .own (lent-whole s l δ) (vptr l 0 ∷ [])) ⊛ ‵ (flent (ν ∷ []) (Body (mem Record) l 0 δ)))))
-      (lends-ref 𝓤 H A W Record (named 0) (ν ∷ []) s l 0) $ await t z $ pick t (λ δ. split t $ move t (2 ∷ []) $ k ν δ))
+  lends-record t z s b o g k =
+      owned t Record (Is Record) (LL.makes T.the-type T′.the-plain 𝓤 H A) s _ (fitting s g) $ move t (1 ∷ 0 ∷ []) $ fjoin t $
+      fpack t (List Val) (λ us. fsep (cellAt fullShare (Record .mir) us b o) (Record .own s us)) (vals s) $ lft-new t z (λ ν. move t (1 ∷ []) $
+      use1 W (later (some (λ (δ : GName). ‵ (MutRef (named 0) (ν ∷ []) Record .own (lent-whole s b o δ) (vptr b o ∷ [])) ⊛ ‵ (flent (ν ∷ []) (Body (mem Record) b o δ)))))
+      (lends-ref 𝓤 H A W Record (named 0) (ν ∷ []) s b o) $ await t z $ pick t (λ δ. split t $ move t (2 ∷ []) $ k ν δ))
 
-  pub stack-back : K → Soaks G → {ν : ℕ} {δ : GName} (s : Stack) (l : ℕ) → (Fits s → Seq K W (‵ (local s l) ∷ Γ) G)
-      → Seq K W (‵ (flft (ν ∷ []) fullShare) ∷ ‵ (flent (ν ∷ []) (Body (mem Record) l 0 δ)) ∷ ‵ (fres δ (Record .coded .code s)) ∷ Γ) G
+  pub record-back : K → Soaks G → {ν : ℕ} {δ : GName} (s : Stack) (b o : ℕ) → (Fits s → Seq K W (‵ (cell s b o) ∷ Γ) G)
+      → Seq K W (‵ (flft (ν ∷ []) fullShare) ∷ ‵ (flent (ν ∷ []) (Body (mem Record) b o δ)) ∷ ‵ (fres δ (Record .coded .code s)) ∷ Γ) G
   unfolding partOf
-  stack-back t z {ν} {δ} s l k =
-      lft-end t z $ use3 W (later (‵ (mem Record .lies s l 0))) (ref-back 𝓤 H A W Record (ν ∷ []) δ s l 0) $ await t z $ fpick t (λ us. fsplit t $
-      spelt t Record (Is Record) (shows 𝓤 H A Record) vals tells fullShare s us l 0 $ move t (1 ∷ []) $ peeks t Record (Is Record) (shows 𝓤 H A Record) s (vals s) (λ g. drop t $
-      use1 W (‵ (local s l)) (W .laws .raw-at fullShare T′.mir l 0 (val s)) $ k (fields-fit s _ g)))
+  record-back t z {ν} {δ} s b o k =
+      lft-end t z $ use3 W (later (‵ (mem Record .lies s b o))) (ref-back 𝓤 H A W Record (ν ∷ []) δ s b o) $ await t z $ fpick t (λ us. fsplit t $
+      spelt t Record (Is Record) (shows 𝓤 H A Record) vals tells fullShare s us b o $ move t (1 ∷ []) $ peeks t Record (Is Record) (shows 𝓤 H A Record) s (vals s) (λ g. drop t $ k (fields-fit s _ g)))
+
+  pub lends-local : K → Soaks G → (s : Stack) (l : ℕ) → Fits s
+      → ((ν : ℕ) (δ : GName) → Seq K W (‵ (flft (ν ∷ []) fullShare) ∷ ‵ (MutRef (named 0) (ν ∷ []) Record .own (lent-whole s l 0 δ) (vptr l 0 ∷ [])) ∷ ‵ (flent (ν ∷ []) (Body (mem Record) l 0 δ)) ∷ Γ) G)
+      → Seq K W (‵ (local s l) ∷ Γ) G
+  lends-local t z s l g k = use1 W (‵ (cell s l 0)) (W .laws .at-raw fullShare T′.mir l 0 (val s)) $ lends-record t z s l 0 g k
+
+  pub local-back : K → Soaks G → {ν : ℕ} {δ : GName} (s : Stack) (l : ℕ) → (Fits s → Seq K W (‵ (local s l) ∷ Γ) G)
+      → Seq K W (‵ (flft (ν ∷ []) fullShare) ∷ ‵ (flent (ν ∷ []) (Body (mem Record) l 0 δ)) ∷ ‵ (fres δ (Record .coded .code s)) ∷ Γ) G
+  local-back t z s l k = record-back t z s l 0 (λ g. use1 W (‵ (local s l)) (W .laws .raw-at fullShare T′.mir l 0 (val s)) $ k g)

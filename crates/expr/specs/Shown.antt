@@ -12,8 +12,9 @@ use Rattle.expr.specs.declared.accept.Checked.{Checked}
 use Rattle.expr.specs.declared.accept.Checked.the-variants.{Fine, Broken}
 use Rattle.expr.specs.declared.accept.After.{After}
 use Rattle.expr.specs.declared.accept.After.the-variants.{Stop, Next}
+use Rattle.expr.specs.declared.eval.Operand.{Operand}
 use Rattle.expr.specs.Word.{unary, binary}
-use Rattle.expr.specs.Token.{Token, Const, Symbol, Un, Bin, Ite, unaryCode, binaryCode, operandCount, operator, readToken}
+use Rattle.expr.specs.Token.{Token, Const, Symbol, Un, Bin, Ite, unaryCode, binaryCode, symbolWidth, operandCount, operator, readToken}
 use Rattle.expr.specs.Expr.{depthLimit, below, pops, after, fits, Parsed, Whole, Breaks}
 use Rattle.expr.specs.Eval.{Env, step, eval, top}
 
@@ -88,6 +89,15 @@ binaryOf (some Ite) a b = 0
 abbrev pub sizeOf : (F : File) → Option Token → ℕ
 sizeOf F none = 0
 sizeOf F (some t) = suc (operandCount F t)
+
+-- a constant or the value of a symbol, with the token's bytes; nothing, of no bytes, for an operator
+abbrev pub operandOf : (F : File) → Env → Option Token → Operand
+operandOf F ρ none = record { size = 0; word = 0 }
+operandOf F ρ (some (Const n)) = record { size = 5; word = n }
+operandOf F ρ (some (Symbol s)) = record { size = symbolWidth F + 1; word = ρ s }
+operandOf F ρ (some (Un o)) = record { size = 0; word = 0 }
+operandOf F ρ (some (Bin o)) = record { size = 0; word = 0 }
+operandOf F ρ (some Ite) = record { size = 0; word = 0 }
 
 -- no symbol has a value: an operator asks for none
 abbrev pub nowhere : Env

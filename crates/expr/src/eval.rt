@@ -9,17 +9,17 @@ use super::token;
 use super::word;
 ghost use mathlib.Core.Path.{_≡_};
 ghost use mathlib.Core.Bool.{true};
-ghost use Prim.Native.Nat.{_+_, _-_, _≤_, _<_};
-ghost use lib.ListN.{length, drop, set};
+ghost use Prim.Native.Nat.{_≤_, _<_};
+ghost use lib.ListN.{length, getD, drop};
 ghost use Rattle.expr.specs.Token.{readToken, operator};
 ghost use Rattle.expr.specs.Expr.{below, parse};
 ghost use Rattle.expr.specs.Eval.{envOf};
-ghost use Rattle.expr.specs.Shown.{popsOf, turned, goes, isWhole, unaryOf, binaryOf, nowhere, Stepped, sizeOf, valueOf};
+ghost use Rattle.expr.specs.Shown.{popsOf, turned, goes, isWhole, unaryOf, binaryOf, nowhere, Stands, operandOf, Stepped, sizeOf, valueOf};
 
-// After a token: the words held, and the bytes that it took.
-pub struct Step {
-    pub depth: usize,
+// What a token puts on the stack, and the bytes that it takes.
+pub struct Operand {
     pub size: usize,
+    pub word: u32,
 }
 
 fn unary(code: u8, a: u32) -> u32
@@ -96,38 +96,34 @@ fn apply(code: u8, words: &mut [u32; 17], depth: usize) -> usize
     apply_ite(words, depth)
 }
 
-// The token at a place, on the first `depth` words.
-fn step_at(
-    e: &[u8],
-    at: usize,
-    file: File,
-    vals: &[u32],
-    words: &mut [u32; 17],
-    depth: usize,
-) -> Step
-    requires { ⌜ (at < length (now e)) × (depth ≤ 17) × (length (now words) ≡ 17) × (goes (turned file (below (length (now vals))) depth (readToken file (drop at (now e)))) ≡ true) ⌝ }
-    ensures { λ r. ⌜ (r .size ≡ sizeOf file (readToken file (drop at (now (e .entry))))) × Stepped (envOf (now (vals .entry))) (readToken file (drop at (now (e .entry)))) (now (words .entry)) depth (now (words .exit)) (r .depth) ⌝ }
+// The operand at a place, a constant or the value of a symbol; of size 0 where an operator stands.
+fn operand_at(e: &[u8], at: usize, file: File, vals: &[u32]) -> Operand
+    requires { ⌜ (at < length (now e)) × Stands file (length (now vals)) (now e) at ⌝ }
+    ensures { λ r. ⌜ r ≡ operandOf file (envOf (now (vals .entry))) (readToken file (drop at (now (e .entry)))) ⌝ }
 {
     let code = e[at];
     if code == 0x01 {
-        let w = number::word_at(e, at + 1);
-        return Step {
-            depth: stack::put(words, depth, w),
+        return Operand {
             size: 5,
+            word: number::word_at(e, at + 1),
         };
     }
     if code == token::symbol_code(file) {
         let symbol = token::symbol_at(e, at + 1, file);
-        let w = vals[symbol];
-        return Step {
-            depth: stack::put(words, depth, w),
+        return Operand {
             size: token::symbol_width(file) + 1,
+            word: vals[symbol],
         };
     }
-    Step {
-        depth: apply(code, words, depth),
-        size: 1,
-    }
+    Operand { size: 0, word: 0 }
+}
+
+// The operator at a place, on the first `depth` words; the words that are held then.
+fn apply_at(e: &[u8], at: usize, words: &mut [u32; 17], depth: usize) -> usize
+    requires { ⌜ (at < length (now e)) × (1 ≤ popsOf (getD (now e) at 0)) × (popsOf (getD (now e) at 0) ≤ depth) × (depth ≤ 17) × (length (now words) ≡ 17) ⌝ }
+    ensures { λ r. ⌜ Stepped nowhere (operator (getD (now (e .entry)) at 0)) (now (words .entry)) depth (now (words .exit)) r ⌝ }
+{
+    apply(e[at], words, depth)
 }
 
 // The token at the reader's place, on the stack; the bytes that it took.
@@ -136,9 +132,15 @@ fn token<'a>(s: &mut Stack, r: Reader<'a>, file: File, vals: &[u32]) -> usize
     ensures { λ n. ⌜ (n ≡ sizeOf file (readToken file (drop (r .entry .at) (now (r .entry .rec))))) × Stepped (envOf (now (vals .entry))) (readToken file (drop (r .entry .at) (now (r .entry .rec)))) (now (s .entry) .words) (now (s .entry) .depth) (now (s .exit) .words) (now (s .exit) .depth) ⌝ }
 {
     let depth = s.depth;
-    let t = step_at(r.rec, r.at, file, vals, &mut s.words, depth);
-    s.depth = t.depth;
-    t.size
+    let t = operand_at(r.rec, r.at, file, vals);
+    let size = t.size;
+    if size == 0 {
+        let next = apply_at(r.rec, r.at, &mut s.words, depth);
+        s.depth = next;
+        return 1;
+    }
+    stack::push(s, t.word);
+    size
 }
 
 // The word that an expression leaves, with the values of its symbols.

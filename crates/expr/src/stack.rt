@@ -1,10 +1,10 @@
 // The operand stack: one record, lent for change and passed from token to token.
 ghost use mathlib.Core.Path.{_≡_};
 ghost use Prim.Native.Nat.{_+_, _-_, _≤_, _<_};
-ghost use lib.ListN.{length, getD, set};
+ghost use lib.ListN.{getD, set};
 ghost use Rattle.expr.specs.Stack.{emptyStack, pushedOn, topOf, withoutTop};
 
-// The first `depth` words are held. (In this order the compiled loop is the faster one.)
+// The first `depth` words are held. The depth stands first: so the compiled loop is the faster one.
 pub struct Stack {
     pub depth: usize,
     pub words: [u32; 17],

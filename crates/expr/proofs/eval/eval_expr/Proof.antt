@@ -60,7 +60,7 @@ use Rattle.expr.proofs.stack.Stack.Laws as T′
 use Rattle.expr.proofs.Evals.{Evaluating, start, ready, on, one-word, end}
 use Rattle.expr.proofs.Walks.{ends-local, slice-twice, slice-val, OwnWords}
 use Rattle.expr.proofs.ReaderRecord.{'a, readerVal, reader-tells, fileVal, file-tells, TypedReader, over, is-over, left, OwnFile, OwnBytes, OwnReader, file-typed, file-owned, local-typed, reader-over}
-use Rattle.expr.proofs.StackRecord.{Record, Fits, fields-fit, tells, local, lent-whole, lends-stack, stack-back}
+use Rattle.expr.proofs.StackRecord.{Record, Fits, fields-fit, tells, local, lent-whole, lends-local, local-back}
 use Rattle.expr.proofs.stack.empty as empty
 use Rattle.expr.proofs.stack.empty.Symbol as empty-def
 use Rattle.expr.proofs.stack.empty.Symbol.{name as #empty}
@@ -160,12 +160,12 @@ module _ {M : Type 1} (𝓤 : URA M) (H : Heap 𝓤) (A : Atoms 𝓤) (W : Given
 
   -- what `pop` is passed
   abbrev to-pop : ℕ → GName → (s : Stack) (l : ℕ) → Pop .Ghost
-  to-pop ν δ s l = (((ν ∷ [], tt), (fullShare, tt), tt, (lent-whole s l δ, tt), (vptr l 0 ∷ [], tt)), tt)
+  to-pop ν δ s l = (((ν ∷ [], tt), (fullShare, tt), tt, (lent-whole s l 0 δ, tt), (vptr l 0 ∷ [], tt)), tt)
 
   goes-pop : (ν : ℕ) (δ : GName) (s : Stack) (l : ℕ) → (0 < s .depth) × (s .depth ≤ 17)
-      → ent 𝓤 (⋆ 𝓤 H A (‵ (flft (ν ∷ []) fullShare) ∷ ‵ (MutRef (named 0) (ν ∷ []) Record .own (lent-whole s l δ) (vptr l 0 ∷ [])) ∷ [])) (Pop .pre (to-pop ν δ s l))
+      → ent 𝓤 (⋆ 𝓤 H A (‵ (flft (ν ∷ []) fullShare) ∷ ‵ (MutRef (named 0) (ν ∷ []) Record .own (lent-whole s l 0 δ) (vptr l 0 ∷ [])) ∷ [])) (Pop .pre (to-pop ν δ s l))
   goes-pop ν δ s l some-word =
-      qed W (‵ (flft (ν ∷ []) fullShare) ∷ ‵ (MutRef (named 0) (ν ∷ []) Record .own (lent-whole s l δ) (vptr l 0 ∷ [])) ∷ []) ∵ says ! some-word $ nothing ! $ move ! (1 ∷ 0 ∷ []) $ join ! $ frame ! $
+      qed W (‵ (flft (ν ∷ []) fullShare) ∷ ‵ (MutRef (named 0) (ν ∷ []) Record .own (lent-whole s l 0 δ) (vptr l 0 ∷ [])) ∷ []) ∵ says ! some-word $ nothing ! $ move ! (1 ∷ 0 ∷ []) $ join ! $ frame ! $
       nothing ! $ move ! (1 ∷ 0 ∷ []) $ fjoin ! $ done !
 
   module _ (κ₁ κ₂ : Lft) (q₁ q₂ : Share) (e : RefT (List ℕ)) (f : File) (vals : RefT (List ℕ)) where
@@ -228,7 +228,7 @@ module _ {M : Type 1} (𝓤 : URA M) (H : Heap 𝓤) (A : Atoms 𝓤) (W : Given
 
     -- what `token` is passed, and what it says of its result r and of the stack z that it leaves
     abbrev passed : GName → State → (l : ℕ) → RefT Stack × (Reader × (File × (RefT (List ℕ) × Unit {0})))
-    passed δ s l = (lent-whole (s .held) l δ, (over e (s .place), (f, (vals, tt))))
+    passed δ s l = (lent-whole (s .held) l 0 δ, (over e (s .place), (f, (vals, tt))))
 
     abbrev to-token : ℕ → GName → State → (l : ℕ) → Token .Ghost
     to-token ν δ s l = (((ν ∷ [], (κ₁, (κ₂, tt))), (fullShare, (q₁, (q₂, tt))), tt, passed δ s l, (vptr l 0 ∷ [], (readerVal (over e (s .place)) ∷ [], (fileVal f ∷ [], (slice-val vals ∷ [], tt))))), tt)
@@ -261,9 +261,9 @@ module _ {M : Type 1} (𝓤 : URA M) (H : Heap 𝓤) (A : Atoms 𝓤) (W : Given
           nothing ! $ owned ! usize (Is usize) (uint-makes 𝓤 H A W w64) n _ (refl, n-fits) $ fjoin ! $ move ! (1 ∷ 0 ∷ []) $ fjoin ! $ done !
 
       goes-token : (ν : ℕ) (δ : GName) (s : State) (l : ℕ) → s .place < length (e .now)
-          → ent 𝓤 (⋆ 𝓤 H A (‵ (flft (ν ∷ []) fullShare) ∷ ‵ (flft κ₁ q₁) ∷ ‵ (flft κ₂ q₂) ∷ ‵ (MutRef (named 0) (ν ∷ []) Record .own (lent-whole (s .held) l δ) (vptr l 0 ∷ [])) ∷ ‵ Bytes ∷ ‵ Values ∷ [])) (Token .pre (to-token ν δ s l))
+          → ent 𝓤 (⋆ 𝓤 H A (‵ (flft (ν ∷ []) fullShare) ∷ ‵ (flft κ₁ q₁) ∷ ‵ (flft κ₂ q₂) ∷ ‵ (MutRef (named 0) (ν ∷ []) Record .own (lent-whole (s .held) l 0 δ) (vptr l 0 ∷ [])) ∷ ‵ Bytes ∷ ‵ Values ∷ [])) (Token .pre (to-token ν δ s l))
       goes-token ν δ s l less =
-          qed W (‵ (flft (ν ∷ []) fullShare) ∷ ‵ (flft κ₁ q₁) ∷ ‵ (flft κ₂ q₂) ∷ ‵ (MutRef (named 0) (ν ∷ []) Record .own (lent-whole (s .held) l δ) (vptr l 0 ∷ [])) ∷ ‵ Bytes ∷ ‵ Values ∷ []) ∵
+          qed W (‵ (flft (ν ∷ []) fullShare) ∷ ‵ (flft κ₁ q₁) ∷ ‵ (flft κ₂ q₂) ∷ ‵ (MutRef (named 0) (ν ∷ []) Record .own (lent-whole (s .held) l 0 δ) (vptr l 0 ∷ [])) ∷ ‵ Bytes ∷ ‵ Values ∷ []) ∵
           says ! (less, s .inv .deep, s .inv .long, ready f (vals .now) (e .now) (s .inv) less) $
           nothing ! $ move ! (3 ∷ 0 ∷ []) $ join ! $ move ! (2 ∷ 0 ∷ []) $ join ! $ move ! (1 ∷ 0 ∷ []) $ join ! $ frame ! $
           nothing ! $ move ! (3 ∷ 0 ∷ []) $ fjoin ! $ use0 W (‵ (OwnFile f)) (file-owned 𝓤 H A W f) $ fjoin ! $ move ! (2 ∷ []) $
@@ -310,7 +310,7 @@ module _ {M : Type 1} (𝓤 : URA M) (H : Heap 𝓤) (A : Atoms 𝓤) (W : Given
             (λ less. skips ! $ exec ! (𝓣 .C) (𝓣 .Λ) En steps (anyQ (Turned s)) $
             -- [κ₁; the bytes; _13; …; _12; …; _11; …; _10; …; _9; …; _8; …; _7; …; _6; …; _5; …; _4; …; _3; …; _2; …; _1; …; _0; …; the values; κ₂], here and at the end
             assigns ! (addr ! (from ! (stop !))) (from ! (stop !)) (init ! 8 refl (tt, tt)) $
-            assigns ! (of-opd ! (load ! (from ! (stop !)) (look ! 18 refl))) (from ! (stop !)) (init ! 6 refl (typed s)) $ move ! (20 ∷ []) $ lends-stack ! tt (s .held) l₄ (s .fits) (λ ν δ.
+            assigns ! (of-opd ! (load ! (from ! (stop !)) (look ! 18 refl))) (from ! (stop !)) (init ! 6 refl (typed s)) $ move ! (20 ∷ []) $ lends-local ! tt (s .held) l₄ (s .fits) (λ ν δ.
             -- [the token ν; the reference; the lender's part; κ₁; the bytes; _13; …; the values (32); κ₂]
             move ! (4 ∷ []) $ slice-twice ! u8 α₁ e (slice-val e ∷ []) $
             move ! (33 ∷ []) $ slice-twice ! u32 α₂ vals (slice-val vals ∷ []) $
@@ -323,7 +323,7 @@ module _ {M : Type 1} (𝓤 : URA M) (H : Heap 𝓤) (A : Atoms 𝓤) (W : Given
             split ! $ move ! (1 ∷ []) $ heard ! (Told s r (zs .0)) (λ told. fsplit ! $ move ! (2 ∷ []) $ split ! $ move ! (1 ∷ []) $ peeks ! usize (Is usize) (shows 𝓤 H A usize) r (w ∷ []) (λ is. drop ! $ split ! $ move ! (1 ∷ []) $ split ! $ move ! (1 ∷ []) $ split ! $
             -- [κ₂; …; κ₁; the token ν; res; …; the values; the bytes; the lender's part; _13; …; _12; …; _11; …; _10; …; _9; …; _8; …; _7; …; room for _6; …]
             land ! (from ! (stop !)) (init ! 23 refl (uint-lawful 𝓤 H A W w64 .typed r _ is .0)) $ rewrite ! 23 (λ (u : Val). ‵ (fat fullShare word l₆ 0 u)) (ap only (is .0)) refl $
-            move ! (3 ∷ 8 ∷ 4 ∷ []) $ stack-back ! tt (zs .0) l₄ (λ g.
+            move ! (3 ∷ 8 ∷ 4 ∷ []) $ local-back ! tt (zs .0) l₄ (λ g.
             -- [_4; κ₂; …; κ₁; …; the values; the bytes; _13; …; _12; …; _11; …; _10; …; _9; …; _8; …; _7; …; _6; …; _5; …; dies; _3; …; _2; …; _1; …; _0; …]
             assigns ! (of-opd ! (load ! (from ! (stop !)) (look ! 23 refl))) (from ! (stop !)) (init ! 9 refl (typed s)) $
             move ! (6 ∷ []) $ slice-twice ! u8 α₁ e (slice-val e ∷ []) $
@@ -338,14 +338,14 @@ module _ {M : Type 1} (𝓤 : URA M) (H : Heap 𝓤) (A : Atoms 𝓤) (W : Given
             forget ! 10 refl $ forget ! 12 refl $ forget ! 14 refl $ forget ! 16 refl $ forget ! 18 refl $ forget ! 22 refl $
             keep ! (8 ∷ 9 ∷ 10 ∷ 11 ∷ 12 ∷ 13 ∷ 14 ∷ 15 ∷ 16 ∷ 17 ∷ 18 ∷ 19 ∷ 20 ∷ 21 ∷ 22 ∷ 23 ∷ 24 ∷ 25 ∷ 3 ∷ 26 ∷ 27 ∷ 28 ∷ 29 ∷ 30 ∷ 31 ∷ 32 ∷ 33 ∷ 34 ∷ 2 ∷ 7 ∷ 0 ∷ 4 ∷ []) $ again ! Nearer At s (next less r (zs .0) told g) (nearer less r (zs .0) told)))))))))))))
             (λ at-end. jumps ! $ exec ! (𝓣 .C) (𝓣 .Λ) En code.Mir.t-5 (atRet En Post) $
-            assigns ! (addr ! (from ! (stop !))) (from ! (stop !)) (init ! 2 refl (tt, tt)) $ move ! (20 ∷ []) $ lends-stack ! tt (s .held) l₄ (s .fits) (λ ν δ. use2 W (raw (Pop .pre (to-pop ν δ (s .held) l₄))) (goes-pop ν δ (s .held) l₄ (some-word at-end)) $
+            assigns ! (addr ! (from ! (stop !))) (from ! (stop !)) (init ! 2 refl (tt, tt)) $ move ! (20 ∷ []) $ lends-local ! tt (s .held) l₄ (s .fits) (λ ν δ. use2 W (raw (Pop .pre (to-pop ν δ (s .held) l₄))) (goes-pop ν δ (s .held) l₄ (some-word at-end)) $
             -- [pre; the lender's part; κ₁; the bytes; _13; …; _12; …; _11; …; _10; …; _9; …; _8; …; _7; …; _6; …; _5; …; dies; _3; …; _2; …; _1; …; _0; …; the values; κ₂]
             calls-at ! (fmOf 𝓤 H (W .laws) 𝓣) Pop known-pop (to-pop ν δ (s .held) l₄) (and-then ! (load ! (from ! (stop !)) (look ! 4 refl)) (no-more !)) (λ v.
-            use1 W (later (some (λ (r : ℕ). ((‵ (flft (ν ∷ []) fullShare) ⊛ ‵ ftrue) ⊛ ‵ (u32 .own r (v ∷ []))) ⊛ raw (ensured 𝓤 H A pop.ended (pop.clauses 𝓤 H A at-mem run) (ν ∷ [], tt) (lent-whole (s .held) l₄ δ, tt) tt r)))) (id⊢ 𝓤 _) $ await ! tt $ pick ! (λ r.
-            split ! $ move ! (1 ∷ []) $ use1 W (some (λ (zs : Stack × Unit {0}). ‵ (lasts pop.ended (ν ∷ [], tt) (lent-whole (s .held) l₄ δ, tt) zs) ⊛ raw (fact 𝓤 ((r ≡ topOf (s .held)) × (zs .0 ≡ withoutTop (s .held)))))) (id⊢ 𝓤 _) $ pick ! (λ zs.
+            use1 W (later (some (λ (r : ℕ). ((‵ (flft (ν ∷ []) fullShare) ⊛ ‵ ftrue) ⊛ ‵ (u32 .own r (v ∷ []))) ⊛ raw (ensured 𝓤 H A pop.ended (pop.clauses 𝓤 H A at-mem run) (ν ∷ [], tt) (lent-whole (s .held) l₄ 0 δ, tt) tt r)))) (id⊢ 𝓤 _) $ await ! tt $ pick ! (λ r.
+            split ! $ move ! (1 ∷ []) $ use1 W (some (λ (zs : Stack × Unit {0}). ‵ (lasts pop.ended (ν ∷ [], tt) (lent-whole (s .held) l₄ 0 δ, tt) zs) ⊛ raw (fact 𝓤 ((r ≡ topOf (s .held)) × (zs .0 ≡ withoutTop (s .held)))))) (id⊢ 𝓤 _) $ pick ! (λ zs.
             split ! $ move ! (1 ∷ []) $ heard ! ((r ≡ topOf (s .held)) × (zs .0 ≡ withoutTop (s .held))) (λ told. fsplit ! $ move ! (2 ∷ []) $ split ! $ move ! (1 ∷ []) $ peeks ! u32 (Is u32) (shows 𝓤 H A u32) r (v ∷ []) (λ is. drop ! $ split ! $
             -- [the token ν; …; res; …; the lender's part; κ₁; the bytes; _13; …; _12; …; _11; …; _10; …; _9; …; _8; …; _7; …; _6; …; _5; …; dies; _3; …; _2; …; _1; …; room for _0; …; the values; κ₂]
-            land ! (from ! (stop !)) (init ! 32 refl (uint-lawful 𝓤 H A W w32 .typed r _ is .0)) $ move ! (0 ∷ 4 ∷ 2 ∷ []) $ stack-back ! tt (zs .0) l₄ (λ _.
+            land ! (from ! (stop !)) (init ! 32 refl (uint-lawful 𝓤 H A W w32 .typed r _ is .0)) $ move ! (0 ∷ 4 ∷ 2 ∷ []) $ local-back ! tt (zs .0) l₄ (λ _.
             -- [_4; …; …; κ₁; the bytes; _13; …; _12; …; _11; …; _10; …; _9; …; _8; …; _7; …; _6; …; _5; …; dies; _3; …; _2; …; _1; …; _0; …; the values; κ₂]
             returns ! (look ! 30 refl) $ move ! (30 ∷ 31 ∷ 28 ∷ 29 ∷ 26 ∷ 27 ∷ 24 ∷ 25 ∷ 0 ∷ 23 ∷ 21 ∷ 22 ∷ 19 ∷ 20 ∷ 17 ∷ 18 ∷ 15 ∷ 16 ∷ 13 ∷ 14 ∷ 11 ∷ 12 ∷ 9 ∷ 10 ∷ 7 ∷ 8 ∷ 5 ∷ 6 ∷ []) $
             ends-local ! $ ends-local ! $ ends-local ! $ ends-local ! $ ends-local ! $ ends-local ! $ free1 ! $ free1 ! $ ends-local ! $ ends-local ! $ free1 ! $ free1 ! $ free1 ! $ ends-local ! $ free0 ! $
