@@ -4,6 +4,7 @@ pub mod RowOrder
 pub mod RecordReplies
 pub mod FileReplies
 pub mod RepliesProof
+pub mod Refusals
 pub mod Demand3
 pub mod Demand3Proof
 -- Each public call's statement determines its answer and its buffer.

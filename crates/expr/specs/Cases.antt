@@ -1,12 +1,14 @@
 -- Document 01's marked cases of the operators, and the check on small expressions: computed.
 use Prim.Native.Nat.{ℕ, zero, suc}
 use mathlib.Core.Path.{_≡_, refl}
-use mathlib.Core.List.{List, [], _∷_}
+use mathlib.Core.Option.{none, some}
+use mathlib.Core.List.{List, [], _∷_, map}
 use lib.ListN.{length, replicate}
 use Rattle.expr.specs.declared.File.the-variants.{Table, Trace}
-use Rattle.expr.specs.Word.{Sub, Mul, Udiv, Urem, Shl, Ult, Slt, remainderByZero, signed, binary}
-use Rattle.expr.specs.Token.{Const, Symbol, Bin, operator, readToken}
+use Rattle.expr.specs.Word.{Not, Neg, Zero, Add, Sub, Mul, Udiv, Urem, And, Or, Xor, Shl, Lshr, Equal, Ult, Ule, Slt, remainderByZero, signed, unary, binary, choice}
+use Rattle.expr.specs.Token.{Const, Symbol, Un, Bin, Ite, operator, readToken}
 use Rattle.expr.specs.Expr.{below, fits, Parsed, Whole, Breaks, parseFrom, parse}
+use Rattle.expr.specs.Eval.{envOf, value}
 
 pub m6 : binary 32 Sub 0 1 ≡ 4294967295
 unfolding binary
@@ -27,6 +29,56 @@ m9 = (refl, refl)
 pub m10 : (binary 32 Slt 2147483648 0 ≡ 1) × (binary 32 Ult 2147483648 0 ≡ 0)
 unfolding binary signed
 m10 = (refl, refl)
+
+-- the operators that no marked case has, on words that tell each from its like; an amount of 32 and more shifts everything out
+unaries : (unary 32 Not 1 ≡ 4294967294) × (unary 32 Neg 1 ≡ 4294967295) × (unary 32 Neg 0 ≡ 0) × (unary 32 Zero 0 ≡ 1) × (unary 32 Zero 2 ≡ 0)
+unfolding unary
+unaries = (refl, refl, refl, refl, refl)
+
+sums : (binary 32 Add 4294967295 2 ≡ 1) × (binary 32 Udiv 7 2 ≡ 3) × (binary 32 Urem 7 4 ≡ 3)
+unfolding binary
+sums = (refl, refl, refl)
+
+bits : (binary 32 And 12 10 ≡ 8) × (binary 32 Or 12 10 ≡ 14) × (binary 32 Xor 12 10 ≡ 6)
+unfolding binary
+bits = (refl, refl, refl)
+
+shifts : (binary 32 Shl 1 4294967295 ≡ 0) × (binary 32 Lshr 2147483648 31 ≡ 1) × (binary 32 Lshr 4294967295 32 ≡ 0) × (binary 32 Lshr 6 1 ≡ 3)
+unfolding binary
+shifts = (refl, refl, refl, refl)
+
+tests : (binary 32 Equal 7 7 ≡ 1) × (binary 32 Equal 7 8 ≡ 0) × (binary 32 Ult 7 8 ≡ 1) × (binary 32 Ult 7 7 ≡ 0) × (binary 32 Ule 7 7 ≡ 1) × (binary 32 Ule 8 7 ≡ 0)
+    × (binary 32 Slt 0 2147483648 ≡ 0) × (binary 32 Slt 7 7 ≡ 0) × (binary 32 Slt 4294967295 0 ≡ 1)
+unfolding binary signed
+tests = (refl, refl, refl, refl, refl, refl, refl, refl, refl)
+
+-- any word but zero is true
+choices : (choice 0 5 6 ≡ 6) × (choice 1 5 6 ≡ 5) × (choice 2 5 6 ≡ 5) × (choice 2147483648 5 6 ≡ 5)
+choices = (refl, refl, refl, refl)
+
+-- document 01's list of tokens, code after code, and the codes beside them
+codes : map operator (0x10 ∷ 0x11 ∷ 0x12 ∷ 0x20 ∷ 0x21 ∷ 0x22 ∷ 0x23 ∷ 0x24 ∷ 0x25 ∷ 0x26 ∷ 0x27 ∷ 0x28 ∷ 0x29 ∷ 0x2A ∷ 0x2B ∷ 0x2D ∷ 0x2C ∷ 0x30 ∷ [])
+    ≡ map some (Un Not ∷ Un Neg ∷ Un Zero ∷ Bin Add ∷ Bin Sub ∷ Bin Mul ∷ Bin Udiv ∷ Bin Urem ∷ Bin And ∷ Bin Or ∷ Bin Xor ∷ Bin Shl ∷ Bin Lshr ∷ Bin Equal ∷ Bin Ult
+    ∷ Bin Ule ∷ Bin Slt ∷ Ite ∷ [])
+unfolding operator
+codes = refl
+
+no-codes : map operator (0x00 ∷ 0x01 ∷ 0x02 ∷ 0x03 ∷ 0x0F ∷ 0x13 ∷ 0x1F ∷ 0x2E ∷ 0x2F ∷ 0x31 ∷ 0xFF ∷ []) ≡ none ∷ none ∷ none ∷ none ∷ none ∷ none ∷ none ∷ none ∷ none ∷ none ∷ none ∷ []
+unfolding operator
+no-codes = refl
+
+-- constants have four bytes, a table's symbols one, a trace's two, the highest first; neither file has the other's symbols
+operands : (readToken Table (0x01 ∷ 0x01 ∷ 0x02 ∷ 0x03 ∷ 0x04 ∷ []) ≡ some (Const 16909060)) × (readToken Table (0x02 ∷ 0x05 ∷ 0x06 ∷ []) ≡ some (Symbol 5))
+    × (readToken Trace (0x03 ∷ 0x05 ∷ 0x06 ∷ []) ≡ some (Symbol 1286)) × (readToken Table (0x03 ∷ 0x05 ∷ 0x06 ∷ []) ≡ none) × (readToken Trace (0x02 ∷ 0x05 ∷ 0x06 ∷ []) ≡ none)
+    × (readToken Trace (0x03 ∷ 0x05 ∷ []) ≡ none)
+unfolding readToken operator
+operands = (refl, refl, refl, refl, refl, refl)
+
+-- c, a, b: under c = s0, a = s1, b = s2
+arms : (value (envOf (2 ∷ 5 ∷ 6 ∷ [])) (Symbol 0 ∷ Symbol 1 ∷ Symbol 2 ∷ Ite ∷ []) ≡ 5) × (value (envOf (0 ∷ 5 ∷ 6 ∷ [])) (Symbol 0 ∷ Symbol 1 ∷ Symbol 2 ∷ Ite ∷ []) ≡ 6)
+    × (value (envOf (7 ∷ 2 ∷ [])) (Symbol 0 ∷ Symbol 1 ∷ Bin Udiv ∷ []) ≡ 3)
+unfolding value binary
+arms = (refl, refl, refl)
 
 -- x - 1, of the small rule
 one-less : List ℕ
@@ -60,6 +112,12 @@ short : parse Table (below 1) (0x02 ∷ 0x00 ∷ 0x01 ∷ 0x00 ∷ []) ≡ Break
 unfolding parseFrom readToken operator fits
 short = refl
 
+-- an empty stack is popped: by a sum of one word, by an ite of two
+pops-empty : (parse Table (below 1) (0x12 ∷ []) ≡ Breaks (0x12 ∷ [])) × (parse Table (below 1) (0x02 ∷ 0x00 ∷ 0x20 ∷ []) ≡ Breaks (0x20 ∷ []))
+    × (parse Table (below 1) (0x02 ∷ 0x00 ∷ 0x02 ∷ 0x00 ∷ 0x30 ∷ []) ≡ Breaks (0x30 ∷ []))
+unfolding parseFrom readToken operator fits
+pops-empty = (refl, refl, refl)
+
 -- k symbols, then k - 1 sums
 deep : (k sums : ℕ) → List ℕ
 deep zero n = replicate n 0x20
@@ -77,3 +135,12 @@ sixteen = refl
 seventeen : verdict (parse Table (below 1) (deep 17 16)) ≡ 18
 unfolding parseFrom readToken operator fits deep
 seventeen = refl
+
+-- and 17 in a trace
+abbrev deepTrace : (k sums : ℕ) → List ℕ
+deepTrace zero n = replicate n 0x20
+deepTrace (suc k) n = 0x03 ∷ 0x00 ∷ 0x00 ∷ deepTrace k n
+
+eighteen : (verdict (parse Trace (below 1) (deepTrace 17 16)) ≡ 0) × (verdict (parse Trace (below 1) (deepTrace 18 17)) ≡ 20)
+unfolding parseFrom readToken operator fits
+eighteen = (refl, refl)

@@ -3,7 +3,8 @@ use Prim.Native.Nat.{ℕ}
 use mathlib.Core.Path.{_≡_, refl}
 use mathlib.Core.List.{List, [], _∷_}
 use lib.Count.{ones}
-use Rattle.expr.specs.Token.{operator, readToken}
+use Rattle.expr.specs.Word.{Not, Neg, Zero, Add, Sub, Mul, Udiv, Urem, And, Or, Xor, Shl, Lshr, Equal, Ult, Ule, Slt}
+use Rattle.expr.specs.Token.{Const, Symbol, Un, Bin, Ite, operator, readToken}
 use Rattle.expr.specs.Expr.{fits, parseFrom}
 use Rattle.file.specs.File.{headerReply, frame, recordOf, records, readFile, encode}
 use Rattle.table.specs.Table.{instr, readTable}
@@ -15,7 +16,7 @@ use Rattle.unwind.specs.Answer.{traceAnswer}
 use Rattle.slice.specs.Slice.{slice}
 use Rattle.slice.specs.Answer.{sliceAnswer}
 use Rattle.show.specs.Ascii.{ascii}
-use Rattle.show.specs.Text.{decimal, printed}
+use Rattle.show.specs.Text.{decimal, exprText, printed}
 
 -- the whole output for K = 0 and the small rule
 pub small : printed (0 ∷ smallRule) ≡ ascii "inputs 1 statements 4\n65535 assign s1 0\n0 assign s2 s1 0 ule s0 zero 3 s1 ite s1 ite\n2 assume s2 2 ule 1 zero 1 ite\n3 assert s2 3 ule 0 1 ite\n"
@@ -34,3 +35,17 @@ refusals = (refl, refl, refl, refl, refl)
 largest : decimal 4294967295 ≡ ascii "4294967295"
 unfolding decimal
 largest = refl
+
+-- a byte for a letter
+letters : ascii "s 09az\n" ≡ 115 ∷ 32 ∷ 48 ∷ 57 ∷ 97 ∷ 122 ∷ 10 ∷ []
+letters = refl
+
+numbers : (decimal 0 ≡ 48 ∷ []) × (decimal 9 ≡ 57 ∷ []) × (decimal 10 ≡ 49 ∷ 48 ∷ []) × (decimal 4096 ≡ 52 ∷ 48 ∷ 57 ∷ 54 ∷ [])
+unfolding decimal
+numbers = (refl, refl, refl, refl)
+
+-- document 01's names of the tokens, in its order
+names : exprText (Const 10 ∷ Symbol 4159 ∷ Un Not ∷ Un Neg ∷ Un Zero ∷ Bin Add ∷ Bin Sub ∷ Bin Mul ∷ Bin Udiv ∷ Bin Urem ∷ Bin And ∷ Bin Or ∷ Bin Xor ∷ Bin Shl ∷ Bin Lshr ∷ Bin Equal
+    ∷ Bin Ult ∷ Bin Ule ∷ Bin Slt ∷ Ite ∷ []) ≡ ascii " 10 s4159 not neg zero add sub mul udiv urem and or xor shl lshr equal ult ule slt ite"
+unfolding decimal
+names = refl

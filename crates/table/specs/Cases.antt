@@ -85,6 +85,29 @@ self-jump : runAnswer (0x01 ∷ 0x00 ∷ 0x10 ∷ 0x00 ∷ 0x00 ∷ 0x01 ∷ 0x0
 unfolding runAnswer readTable readFile headerReply records recordOf frame instr parseFrom readToken operator fits run value
 self-jump = refl
 
+-- (0) assert x; (1) assume y; (2) assert 0, for x and y: any word but zero is true, a false Assume ends the run safe, a false Assert unsafe at its place
+abbrev tested : List ℕ
+tested =
+    0x01 ∷ 0x00 ∷ 0x18 ∷ 0x02 ∷ 0x00 ∷ 0x03
+    ∷ 0x00 ∷ 0x03 ∷ 0x03 ∷ 0x02 ∷ 0x00
+    ∷ 0x00 ∷ 0x03 ∷ 0x02 ∷ 0x02 ∷ 0x01
+    ∷ 0x00 ∷ 0x06 ∷ 0x03 ∷ 0x01 ∷ 0x00 ∷ 0x00 ∷ 0x00 ∷ 0x00 ∷ []
+
+tests : (runAnswer tested 3 (0 ∷ 0 ∷ []) ≡ unsafeAt 0 0) × (runAnswer tested 3 (2 ∷ 0 ∷ []) ≡ safe 0) × (runAnswer tested 3 (2147483648 ∷ 2 ∷ []) ≡ unsafeAt 2 0)
+unfolding runAnswer readTable readFile headerReply records recordOf frame instr parseFrom readToken operator fits run value
+tests = (refl, refl, refl)
+
+-- (0) if x go to 2; (1) assert 0: target n ends the run, and a target has two bytes
+abbrev leaps : List ℕ
+leaps =
+    0x01 ∷ 0x00 ∷ 0x15 ∷ 0x01 ∷ 0x00 ∷ 0x02
+    ∷ 0x00 ∷ 0x05 ∷ 0x04 ∷ 0x00 ∷ 0x02 ∷ 0x02 ∷ 0x00
+    ∷ 0x00 ∷ 0x06 ∷ 0x03 ∷ 0x01 ∷ 0x00 ∷ 0x00 ∷ 0x00 ∷ 0x00 ∷ []
+
+to-the-end : (runAnswer leaps 0 (1 ∷ []) ≡ safe 0) × (runAnswer leaps 0 (0 ∷ []) ≡ unsafeAt 1 0)
+unfolding runAnswer readTable readFile headerReply records recordOf frame instr parseFrom readToken operator fits run value
+to-the-end = (refl, refl)
+
 -- 1,024 instructions, each an Assert of symbol 0, in 5,126 bytes
 abbrev pub asserts : ℕ → List ℕ
 asserts zero = []

@@ -165,3 +165,13 @@ sentences : (judgeAnswer (traceOf 16 1 fails) [] ≡ unsafeAt 7) × (judgeAnswer
     × (judgeAnswer (traceOf 16 1 (copies 0 0)) [] ≡ refusal 7 6) × (judgeAnswer (traceOf 28 2 (one 1 ++ copies 2 0)) [] ≡ refusal 7 18)
 unfolding judgeAnswer readTrace readFile headerReply records recordOf frame stmt parseFrom readToken operator fits judge value unary binary
 sentences = (refl, refl, refl, refl, refl, refl, refl, refl, refl)
+
+-- at place p a test of a constant below 256
+abbrev testOf : (kind p n : ℕ) → List ℕ
+testOf kind p n = 0x00 ∷ 0x08 ∷ kind ∷ 0xFF ∷ p ∷ 0x01 ∷ 0x00 ∷ 0x00 ∷ 0x00 ∷ n ∷ []
+
+-- any word but zero is true; places are not checked, 65535 too, and need not rise
+places : (judgeAnswer (traceOf 26 2 (testOf 3 0xFF 2 ++ testOf 3 0xFE 0)) [] ≡ unsafeAt 65534) × (judgeAnswer (traceOf 16 1 (testOf 3 0xFF 0)) [] ≡ unsafeAt 65535)
+    × (judgeAnswer (traceOf 26 2 (testOf 2 0xFF 2 ++ testOf 3 0xFF 0)) [] ≡ unsafeAt 65535)
+unfolding judgeAnswer readTrace readFile headerReply records recordOf frame stmt parseFrom readToken operator fits judge value
+places = (refl, refl, refl)
