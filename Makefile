@@ -3,7 +3,7 @@
 # make lib     target/staticlib/libkadvitul.a, for C and Rust
 # make bench   speed against plain Rust, as ratios
 # make soak    N generated cases of each call from seed SEED on, and demand 3: make soak N=1000000 SEED=1
-# make mutants wrong definitions, and which proof refuses each
+# make mutants wrong definitions and wrong programs, and which proof refuses each
 # make fmt     lay every file out
 
 RULE = small
