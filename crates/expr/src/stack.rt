@@ -4,7 +4,7 @@ ghost use Prim.Native.Nat.{_+_, _-_, _≤_, _<_};
 ghost use lib.ListN.{getD, set};
 ghost use Rattle.expr.specs.Stack.{emptyStack, pushedOn, topOf, withoutTop};
 
-// The first `depth` words are held. The depth stands first: so the compiled loop is the faster one.
+// The first `depth` words are held. The depth stands first: so the compiled loop has fewer instructions.
 pub struct Stack {
     pub depth: usize,
     pub words: [u32; 17],

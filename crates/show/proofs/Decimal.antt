@@ -12,7 +12,7 @@ use borrow.Author.Tests.{ltb-true, ltb-false, lt-ltb, eq-eqb, ne-eqb}
 use Rattle.write.specs.Splice.{splice, Wrote}
 use Rattle.write.specs.SpliceLaws.{splice-nil, length-splice, splice-behind}
 use Rattle.show.specs.Text.{decimalUpTo, decimal}
-use Rattle.show.specs.Shown.{placesUpTo, places}
+use Rattle.show.specs.Shown.{digitCountUpTo, digitCount}
 
 -- ---- counting
 
@@ -29,15 +29,15 @@ left-some : (j n : ℕ) → 0 < n → left (suc j) n ≡ suc (left j (n / 10))
 left-some j n h = rw (ne-eqb n 0 (λ e. omega arith))
 
 -- the last digit, and those in front of it
-places-left : (j n : ℕ) → placesUpTo (suc j) n ≡ suc (left j (n / 10))
-places-left zero n = go (ltb n 10)
+count-left : (j n : ℕ) → digitCountUpTo (suc j) n ≡ suc (left j (n / 10))
+count-left zero n = go (ltb n 10)
   where
     go : (x : Bool) → _≡_ {A = ℕ} (cond x 1 1) 1
     go true = refl
     go false = refl
-places-left (suc j) n = go (ltb n 10) refl (places-left j (n / 10))
+count-left (suc j) n = go (ltb n 10) refl (count-left j (n / 10))
   where
-    go : (x : Bool) → ltb n 10 ≡ x → placesUpTo (suc j) (n / 10) ≡ suc (left j (n / 10 / 10)) → cond x 1 (suc (placesUpTo (suc j) (n / 10))) ≡ suc (left (suc j) (n / 10))
+    go : (x : Bool) → ltb n 10 ≡ x → digitCountUpTo (suc j) (n / 10) ≡ suc (left j (n / 10 / 10)) → cond x 1 (suc (digitCountUpTo (suc j) (n / 10))) ≡ suc (left (suc j) (n / 10))
     go true e q = let h = ltb-true n 10 e in ap suc (sym (left-none (suc j) (n / 10) (omega arith)))
     go false e q = let h = ltb-false n 10 e in ap suc (q ∙ sym (left-some j (n / 10) (omega arith)))
 
@@ -47,16 +47,16 @@ pub record Counting (v k rest : ℕ) : Type 0 where
   pub ten : k + more ≡ 10
   pub some-digit : 1 ≤ k
   pub little : rest < 10 ^ more
-  pub count : k + left more rest ≡ places v
+  pub count : k + left more rest ≡ digitCount v
 
 pub counting-start : (v : ℕ) → v < 4294967296 → Counting v 1 (v / 10)
-counting-start v h = record { more = 9; ten = refl; some-digit = omega arith; little = omega arith; count = omega (arith, places-left 9 v) }
+counting-start v h = record { more = 9; ten = refl; some-digit = omega arith; little = omega arith; count = omega (arith, count-left 9 v) }
 
 module _ {v k rest : ℕ} (c : Counting v k rest) where
   pub count-on : 0 < rest → Counting v (k + 1) (rest / 10)
   count-on h = go (c .more) (c .ten) (c .little) (c .count)
     where
-      go : (m : ℕ) → k + m ≡ 10 → rest < 10 ^ m → k + left m rest ≡ places v → Counting v (k + 1) (rest / 10)
+      go : (m : ℕ) → k + m ≡ 10 → rest < 10 ^ m → k + left m rest ≡ digitCount v → Counting v (k + 1) (rest / 10)
       go zero t l q = absurd (omega arith)
       go (suc j) t l q = record {
         more = j;
@@ -66,7 +66,7 @@ module _ {v k rest : ℕ} (c : Counting v k rest) where
         count = omega (arith, q, left-some j rest h);
       }
 
-  pub counted : rest ≤ 0 → (k ≡ places v) × (1 ≤ k) × (k ≤ 10)
+  pub counted : rest ≤ 0 → (k ≡ digitCount v) × (1 ≤ k) × (k ≤ 10)
   counted h = (omega (arith, c .count, left-none (c .more) rest (omega arith)), c .some-digit, omega (arith, c .ten))
 
 -- ---- writing
@@ -80,16 +80,16 @@ length-digits : (i n : ℕ) → length (lastDigits i n) ≡ i
 length-digits zero n = refl
 length-digits (suc i) n = length-append (lastDigits i (n / 10)) ((48 + n % 10) ∷ []) ∙ omega (arith, length-digits i (n / 10))
 
-all-digits : (k n : ℕ) → decimalUpTo k n ≡ lastDigits (placesUpTo k n) n
+all-digits : (k n : ℕ) → decimalUpTo k n ≡ lastDigits (digitCountUpTo k n) n
 all-digits zero n = refl
 all-digits (suc k) n = go (ltb n 10) refl (all-digits k (n / 10))
   where
-    go : (x : Bool) → ltb n 10 ≡ x → decimalUpTo k (n / 10) ≡ lastDigits (placesUpTo k (n / 10)) (n / 10)
-        → cond x ((48 + n) ∷ []) (decimalUpTo k (n / 10) ++ (48 + n % 10) ∷ []) ≡ lastDigits (cond x 1 (suc (placesUpTo k (n / 10)))) n
+    go : (x : Bool) → ltb n 10 ≡ x → decimalUpTo k (n / 10) ≡ lastDigits (digitCountUpTo k (n / 10)) (n / 10)
+        → cond x ((48 + n) ∷ []) (decimalUpTo k (n / 10) ++ (48 + n % 10) ∷ []) ≡ lastDigits (cond x 1 (suc (digitCountUpTo k (n / 10)))) n
     go true e q = let h = ltb-true n 10 e in ap {B = List ℕ} (λ d. (48 + d) ∷ []) (let m : n ≡ n % 10 = omega arith in m)
     go false e q = ap (λ ds. ds ++ (48 + n % 10) ∷ []) q
 
-decimal-is : (n k : ℕ) → k ≡ places n → decimal n ≡ lastDigits k n
+decimal-is : (n k : ℕ) → k ≡ digitCount n → decimal n ≡ lastDigits k n
 unfolding decimal
 decimal-is n k e = all-digits 10 n ∙ ap (λ i. lastDigits i n) (sym e)
 
@@ -117,7 +117,7 @@ module _ {v : ℕ} {out₀ : List ℕ} {at k : ℕ} {out : List ℕ} {i rest : �
             ∙ splice-behind at front here out ∙ ap (λ n. splice at (lastDigits n rest) out) (sym e) ∙ s .buffer;
       }
 
-  pub stored : i ≡ 0 → k ≡ places v → Wrote out₀ at (decimal v) out (at + k)
+  pub stored : i ≡ 0 → k ≡ digitCount v → Wrote out₀ at (decimal v) out (at + k)
   stored z e = record {
     buffer = sym (splice-nil at out) ∙ ap (λ n. splice at (lastDigits n rest) out) (sym z) ∙ s .buffer ∙ ap (λ ds. splice at ds out₀) (sym (decimal-is v k e));
     next = omega (arith, ap length (decimal-is v k e), length-digits k v);

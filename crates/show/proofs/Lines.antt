@@ -26,8 +26,8 @@ use Rattle.trace.proofs.Moves.{expr-part}
 use Rattle.write.specs.Splice.{Wrote}
 use Rattle.write.specs.SpliceLaws.{Ahead, ahead-start, ahead-step, ahead-end, ahead-length}
 use Rattle.show.specs.Ascii.{ascii}
-use Rattle.show.specs.Text.{decimal, kindName, exprText, stmtLines, traceText}
-use Rattle.show.specs.Shown.{lineIn, firstLine}
+use Rattle.show.specs.Text.{firstLine, decimal, kindName, exprText, stmtLines, traceText}
+use Rattle.show.specs.Shown.{lineIn}
 
 -- ---- one record
 

@@ -8,15 +8,15 @@ use Rattle.expr.specs.Token.{Token, operator}
 use Rattle.file.specs.File.{Body, Good, Bad}
 use Rattle.trace.specs.Trace.{Stmt}
 use Rattle.show.specs.Ascii.{ascii}
-use Rattle.show.specs.Text.{decimal, tokenText, stmtLine}
+use Rattle.show.specs.Text.{tokenText, stmtLine}
 
 -- the digits of a number, at most k
-abbrev pub placesUpTo : (k n : ℕ) → ℕ
-placesUpTo zero n = 0
-placesUpTo (suc k) n = cond (ltb n 10) 1 (suc (placesUpTo k (n / 10)))
+abbrev pub digitCountUpTo : (k n : ℕ) → ℕ
+digitCountUpTo zero n = 0
+digitCountUpTo (suc k) n = cond (ltb n 10) 1 (suc (digitCountUpTo k (n / 10)))
 
-abbrev pub places : ℕ → ℕ
-places n = placesUpTo 10 n
+abbrev pub digitCount : ℕ → ℕ
+digitCount n = digitCountUpTo 10 n
 
 -- the text of a token that is read, after a space
 abbrev pub readText : Option Token → List ℕ
@@ -35,6 +35,3 @@ nameOf b = textOf (operator b)
 abbrev pub lineIn : Body Stmt → List ℕ
 lineIn (Good t) = stmtLine t
 lineIn (Bad r) = []
-
-abbrev pub firstLine : (S n : ℕ) → List ℕ
-firstLine S n = ascii "inputs " ++ decimal S ++ ascii " statements " ++ decimal n ++ ascii "\n"

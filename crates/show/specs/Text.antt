@@ -77,9 +77,13 @@ abbrev pub stmtLines : List Stmt → List ℕ
 stmtLines [] = []
 stmtLines (t ∷ ts) = stmtLine t ++ stmtLines ts
 
--- first S and the statement count, then a line for each statement
+-- S and the statement count
+abbrev pub firstLine : (S n : ℕ) → List ℕ
+firstLine S n = ascii "inputs " ++ decimal S ++ ascii " statements " ++ decimal n ++ ascii "\n"
+
+-- and then a line for each statement
 abbrev pub sliceText : (S : ℕ) → List Stmt → List ℕ
-sliceText S ts = ascii "inputs " ++ decimal S ++ ascii " statements " ++ decimal (length ts) ++ ascii "\n" ++ stmtLines ts
+sliceText S ts = firstLine S (length ts) ++ stmtLines ts
 
 abbrev pub refusalText : (reply offset : ℕ) → List ℕ
 refusalText reply offset = ascii "refused " ++ decimal reply ++ ascii " at " ++ decimal offset ++ ascii "\n"

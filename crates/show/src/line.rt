@@ -11,8 +11,8 @@ ghost use Rattle.file.specs.Shown.{isGood, isAccepted, listed};
 ghost use Rattle.trace.specs.Trace.{readTrace};
 ghost use Rattle.trace.specs.Shown.{held};
 ghost use Rattle.write.specs.Splice.{Wrote};
-ghost use Rattle.show.specs.Text.{stmtLines, traceText};
-ghost use Rattle.show.specs.Shown.{lineIn, firstLine};
+ghost use Rattle.show.specs.Text.{firstLine, stmtLines, traceText};
+ghost use Rattle.show.specs.Shown.{lineIn};
 
 // The line of the record at a place. No line has more letters than six for each of the record's bytes.
 fn put_line(trace: &[u8], at: usize, out: &mut [u8], to: usize) -> usize

@@ -13,11 +13,11 @@ ghost use Rattle.file.specs.Shown.{kindOf};
 ghost use Rattle.write.specs.Splice.{Wrote};
 ghost use Rattle.show.specs.Ascii.{ascii};
 ghost use Rattle.show.specs.Text.{decimal, kindName, exprText, refusalText};
-ghost use Rattle.show.specs.Shown.{places, nameOf, readText};
+ghost use Rattle.show.specs.Shown.{digitCount, nameOf, readText};
 
 // How many digits a number has.
 fn digits(v: u32) -> usize
-    ensures { λ r. ⌜ (r ≡ places v) × (1 ≤ r) × (r ≤ 10) ⌝ }
+    ensures { λ r. ⌜ (r ≡ digitCount v) × (1 ≤ r) × (r ≤ 10) ⌝ }
 {
     let mut k: usize = 1;
     let mut rest = v / 10;
