@@ -1,11 +1,12 @@
 -- The printer's two buffers hold whole results. A trace that was written is accepted, so its slice fits where the trace fits, and is accepted too;
 -- and the first bytes of a buffer, as many as were written, are those that were written.
-use Prim.Native.Nat.{ℕ, _+_, _≤_, _<_}
+use Prim.Native.Nat.{ℕ, _≤_, _<_}
 use native.Mathlib.Omega.{arith}
 use mathlib.Core.Path.{_≡_, refl, sym, ap, _∙_}
 use mathlib.Core.Bool.{true, false, cond}
-use mathlib.Core.List.{List, [], _∷_, _++_}
+use mathlib.Core.List.{List, [], _∷_}
 use lib.ListN.{length, take, drop, getD, length-append}
+use lib.Seq.{take-append-seam}
 use lib.Dec.{leb}
 use borrow.Author.Tests.{eq-eqb, ne-eqb, le-leb, lt-leb}
 use Rattle.expr.specs.Lists.{All}
@@ -26,10 +27,6 @@ use Rattle.show.specs.Answer.{largest, Shown}
 
 -- ---- a result in a buffer
 
-first-part : (bs ys : List ℕ) → take (length bs) (bs ++ ys) ≡ bs
-first-part [] ys = refl
-first-part (b ∷ bs) ys = ap (λ t. b ∷ t) (first-part bs ys)
-
 -- the first n bytes of a buffer are a result
 pub record First (n : ℕ) (buffer bs : List ℕ) : Type 0 where
   pub inside : n ≤ length buffer
@@ -41,7 +38,7 @@ pub first-bytes : (bs : (room : ℕ) → List ℕ) (out : List ℕ) {n : ℕ} {o
     → n ≡ length (bs (length out)) → First n out′ (bs 65535)
 first-bytes bs out {n} {out′} l e q =
     let a = bs (length out) in
-    let t : take n out′ ≡ a = ap (λ k. take k out′) q ∙ ap (take (length a)) e ∙ first-part a (drop (length a) out) in
+    let t : take n out′ ≡ a = ap (λ k. take k out′) q ∙ ap (take (length a)) e ∙ take-append-seam a (drop (length a) out) in
     record {
       inside = omega (arith, ap length e, length-append a (drop (length a) out));
       those = t ∙ ap bs l;

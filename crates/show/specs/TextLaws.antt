@@ -1,12 +1,12 @@
 -- Input that is too long for any table: its first 65,537 bytes say all that is printed, so a program may stop reading there.
-use Prim.Native.Nat.{ℕ, zero, suc, _≤_, _<_}
+use Prim.Native.Nat.{ℕ, suc, _≤_}
 use native.Mathlib.Omega.{arith}
 use native.Mathlib.Decide.{decLt}
 use mathlib.Core.Path.{_≡_, refl, sym, ap, _∙_}
 use mathlib.Core.Bool.{Bool, true, false, cond, _&&_}
 use mathlib.Core.List.{List, [], _∷_}
 use lib.ListN.{length, take, drop, getD}
-use lib.Seq.{length-take-le, take-all}
+use lib.Seq.{length-take-le, take-all, getD-take}
 use lib.Dec.{eqb, leb}
 use borrow.Author.Tests.{ne-eqb, le-leb}
 use Rattle.expr.specs.Lists.{All, all-take, all-drop}
@@ -34,11 +34,6 @@ too-long b o h = file-refused 1 1024 instrs b (cond (eqb (getD b 0 0) 1) 3 2) re
     not-zero true e = omega arith
     not-zero false e = omega arith
 
-first-of : (n : ℕ) (b : List ℕ) → 0 < n → getD (take n b) 0 0 ≡ getD b 0 0
-first-of zero b h = absurd (omega arith)
-first-of (suc n) [] h = refl
-first-of (suc n) (x ∷ b) h = refl
-
 table-cut : (n K : ℕ) (b : List ℕ) → 65536 ≤ n → All Byte b → traceAnswer (take n b) K 65535 ≡ traceAnswer b K 65535
 unfolding traceAnswer
 table-cut n K b l o =
@@ -46,7 +41,7 @@ table-cut n K b l o =
       | yes h ↦
           ap (answered K 65535)
           (too-long (take n b) (all-take Byte n b o) (omega (arith, length-take-le n b (omega arith)))
-          ∙ ap (λ v. Refused (cond (eqb v 1) 3 2) 0) (first-of n b (omega arith)) ∙ sym (too-long b o (omega arith)))
+          ∙ ap (λ v. Refused (cond (eqb v 1) 3 2) 0) (getD-take n b 0 0 (omega arith)) ∙ sym (too-long b o (omega arith)))
       | no h ↦ ap (λ t. traceAnswer t K 65535) (take-all n b (omega arith))
     ]
 
