@@ -18,7 +18,7 @@ use Rattle.expr.specs.declared.accept.Checked.the-variants.{Fine, Broken}
 use Rattle.expr.specs.Shown.{checked}
 use Rattle.expr.specs.Expr.{Parsed, Whole, Breaks, parse}
 use Rattle.expr.specs.Eval.{envOf}
-use Rattle.file.specs.Shown.{replyOf, exprReply, oneMore, readCount, afterGood, readFold, readingOf, offsetsFrom}
+use Rattle.file.specs.Shown.{replyOf, exprReply, oneMore, readCount, readingOf, offsetsFrom}
 use Rattle.file.specs.File.{headerInputs, headerCount, headerReply, Body, Good, Bad, field, rule, holding, frame, Records, Read, Stop, Accepted, Refused, recordOf, before, onRecord, records, finish, readFile}
 
 -- ---- frames
@@ -178,17 +178,6 @@ module _ {A St : Type 0} (one : St → List ℕ → Body A) (next : St → A →
   count-good a e =
       ap (λ x. oneMore one next x (λ a. readCount one next c (next σ a) (drop (2 + frame (drop at s)) (drop at s)))) e
       ∙ ap (λ r. suc (readCount one next c (next σ a) r)) (drop-drop (2 + frame (drop at s)) at s)
-
-  pub fold-good : {B : Type 0} (f : B → A → B) (b : B) (a : A) → recordOf (one σ) (drop at s) ≡ Good a
-      → readFold one next f b (suc c) σ (drop at s) ≡ readFold one next f (f b a) c (next σ a) (drop (at + (2 + frame (drop at s))) s)
-  unfolding readFold
-  fold-good f b a e =
-      ap (λ x. afterGood one next b x (λ a. readFold one next f (f b a) c (next σ a) (drop (2 + frame (drop at s)) (drop at s)))) e
-      ∙ ap (readFold one next f (f b a) c (next σ a)) (drop-drop (2 + frame (drop at s)) at s)
-
-  pub fold-bad : {B : Type 0} (f : B → A → B) (b : B) (r : ℕ) → recordOf (one σ) (drop at s) ≡ Bad r → readFold one next f b (suc c) σ (drop at s) ≡ b
-  unfolding readFold
-  fold-bad f b r e = ap (λ x. afterGood one next b x (λ a. readFold one next f (f b a) c (next σ a) (drop (2 + frame (drop at s)) (drop at s)))) e
 
   pub count-bad : (r : ℕ) → recordOf (one σ) (drop at s) ≡ Bad r → readCount one next (suc c) σ (drop at s) ≡ 0
   unfolding readCount

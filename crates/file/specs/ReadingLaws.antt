@@ -1,72 +1,147 @@
--- What the code's reading of the records after a header says of the file: it is refused with the reading's reply and offset, or accepted with all
--- offsets stored.
+-- What the code's reading of a file says of it: the file is refused with the reading's reply and offset, or accepted with the offsets of all records
+-- stored.
 use Prim.Native.Nat.{ℕ, _≤_, _<_}
 use native.Mathlib.Omega.{arith}
 use mathlib.Core.Path.{_≡_, refl, sym, ap, ap₂, _∙_, subst}
+use mathlib.Core.Bool.{Bool, true, false, cond}
 use mathlib.Core.List.{List}
 use lib.ListN.{length, drop, getD}
 use lib.Seq.{sets, length-sets}
+use lib.Dec.{eqb}
+use borrow.Author.Tests.{eqb-true, eqb-false, ne-eqb}
 use Rattle.expr.specs.Lists.{All, all-drop}
 use Rattle.expr.specs.Number.{Byte}
 use Rattle.expr.specs.NumberLaws.{number-lt}
 use Rattle.file.specs.File.{headerInputs, headerCount, headerReply, Body, Records, Read, Stop, records, Input, Accepted, Refused, finish, readFile}
-use Rattle.file.specs.Shown.{readCount, readingOf, offsetsFrom}
-use Rattle.file.specs.FileLaws.{Low, stop-low, reading-offset, records-chain, count-all, header-is, file-read, offsets-length, sets-at}
-use Rattle.file.specs.WalkLaws.{Walked}
+use Rattle.file.specs.Shown.{readCount, readingOf, offsetsFrom, ReadRecords, isAccepted, listed, fileReading, fileCount, ReadFile, Ready}
+use Rattle.file.specs.FileLaws.{Low, reading-offset, records-chain, count-all, Header, header-is, file-refused, file-read, file-is, file-refused-positive, offsets-length, sets-at}
 use Rattle.file.specs.declared.Reading.{Reading}
 
 -- a file whose length field is right is short
 pub short : (version limit : ℕ) (s : List ℕ) → All Byte s → headerReply version limit s ≡ 0 → length s < 65536
 short version limit s o h = omega (arith, number-lt 2 (drop 1 s) (all-drop Byte 1 s o), header-is version limit s h .total)
 
-pub record Accepts {A : Type 0} (version limit : ℕ) (body : (S n : ℕ) → List ℕ → Records A) (s : List ℕ) (count : ℕ) : Type 0 where
-  pub things : List A
-  pub is : readFile version limit body s ≡ Accepted (headerInputs s) things
-  pub counted : count ≡ headerCount s
-  pub many : length things ≡ headerCount s
+-- a reply is the file's
+pub reply-refuses : {A : Type 0} {file : Input A} {count : ℕ} {s off off′ : List ℕ} {r : Reading} → ReadFile file count s off off′ r → (r .reply ≡ 0 → ⊥)
+    → file ≡ Refused (r .reply) (r .offset)
+reply-refuses {A} {file} {count} {r = r} w h = go file refl (w .answer)
+  where
+    go : (x : Input A) → file ≡ x → r ≡ fileReading count x → file ≡ Refused (r .reply) (r .offset)
+    go (Accepted S xs) e q = absurd (h (ap (λ r. r .reply) q))
+    go (Refused k at) e q = e ∙ sym (ap₂ {C = Input A} Refused (ap (λ r. r .reply) q) (ap (λ r. r .offset) q))
 
-module _ {A St : Type 0} (one : St → List ℕ → Body A) (next : St → A → St) (σ₀ : St) (version limit : ℕ) (body : (S n : ℕ) → List ℕ → Records A) (s : List ℕ)
-    (head : headerReply version limit s ≡ 0) (is-body : body (headerInputs s) (headerCount s) (drop 6 s) ≡ records one next (headerCount s) σ₀ (drop 6 s))
-    (off off′ : List ℕ) (r : Reading) (w : Walked one next s (headerCount s) σ₀ off off′ r) where
+module _ {A St : Type 0} (version limit : ℕ) (one : (S n : ℕ) → St → List ℕ → Body A) (next : St → A → St) (first : (S : ℕ) → St) (s : List ℕ) where
+  abbrev S : ℕ
+  S = headerInputs s
+
   abbrev n : ℕ
   n = headerCount s
 
+  abbrev body : (S n : ℕ) → List ℕ → Records A
+  body S n bs = records (one S n) next n (first S) bs
+
   abbrev all : Records A
-  all = records one next (headerCount s) σ₀ (drop 6 s)
+  all = body S n (drop 6 s)
 
-  pub offset-small : r .offset ≤ length s
-  offset-small = subst (λ q. q .offset ≤ length s) (sym (w .answer)) (reading-offset (length s) (readCount one next n σ₀ (drop 6 s)) all)
+  abbrev file : Input A
+  file = readFile version limit body s
 
-  read : (p : Records A) → all ≡ p → readFile version limit body s ≡ finish (length s) (headerInputs s) p
-  read p e = file-read version limit body s head ∙ ap (finish (length s) (headerInputs s)) (is-body ∙ e)
+  abbrev count : ℕ
+  count = fileCount version limit one next first s
 
-  pub refuses : (r .reply ≡ 0 → ⊥) → readFile version limit body s ≡ Refused (r .reply) (r .offset)
-  refuses h = go all refl (w .answer)
-    where
-      go : (p : Records A) → all ≡ p → r ≡ readingOf (length s) (readCount one next n σ₀ (drop 6 s)) p → readFile version limit body s ≡ Refused (r .reply) (r .offset)
-      go (Read xs) e q = absurd (h (ap (λ r. r .reply) q))
-      go (Stop k bs) e q = read (Stop k bs) e ∙ sym (ap₂ {C = Input A} Refused (ap (λ r. r .reply) q) (ap (λ r. r .offset) q))
+  abbrev counted : ℕ
+  counted = readCount (one S n) next n (first S) (drop 6 s)
 
-  pub accepts : ((σ : St) (bs : List ℕ) → Low (one σ bs)) → r .reply ≡ 0 → Accepts version limit body s (r .count)
-  accepts low h = go all refl (w .answer)
-    where
-      go : (p : Records A) → all ≡ p → r ≡ readingOf (length s) (readCount one next n σ₀ (drop 6 s)) p → Accepts version limit body s (r .count)
-      go (Read xs) e q = record {
-        things = xs;
-        is = read (Read xs) e;
-        counted = ap (λ r. r .count) q ∙ count-all one next s n 6 σ₀ xs e;
-        many = records-chain one next s (λ σ a. Unit {0}) (λ σ l m a q. tt) n 6 σ₀ xs e .1;
+  count-is : headerReply version limit s ≡ 0 → count ≡ counted
+  count-is h = ap (λ x. cond (eqb x 0) counted 0) h
+
+  as-file : (c : ℕ) (p : Records A) → readingOf (length s) c p ≡ fileReading c (finish (length s) S p)
+  as-file c (Read xs) = refl
+  as-file c (Stop r bs) = refl
+
+  -- ---- the ways to a reading: the header refuses, or the records are read
+
+  pub header-read : (r : ℕ) → r ≡ headerReply version limit s → (r ≡ 0 → ⊥) → (off : List ℕ) → ReadFile file count s off off (record { reply = r; offset = 0; count = 0 })
+  unfolding offsetsFrom
+  header-read r e h off =
+      let none : count ≡ 0 = ap (λ x. cond (eqb x 0) counted 0) (sym e) ∙ ap (λ b. cond b counted 0) (ne-eqb r 0 h) in
+      record {
+        answer = sym (ap₂ (λ c x. fileReading c x) none (file-refused version limit body s r (sym e) h));
+        stored = sym (ap (λ c. sets off 0 (offsetsFrom c 6 (drop 6 s))) none);
       }
-      go (Stop k bs) e q = absurd (let z : r .reply ≡ k = ap (λ r. r .reply) q in omega (arith, stop-low one next low n σ₀ (drop 6 s) k bs e))
 
-  module _ (a : Accepts version limit body s (r .count)) (h : headerCount s ≤ length off) where
-    all-stored : off′ ≡ sets off 0 (offsetsFrom n 6 (drop 6 s))
-    all-stored = w .stored ∙ ap (λ c. sets off 0 (offsetsFrom c 6 (drop 6 s))) (a .counted)
+  module _ (head : headerReply version limit s ≡ 0) {off off′ : List ℕ} {r : Reading} where
+    pub records-read : ReadRecords (one S n) next s n (first S) off off′ r → ReadFile file count s off off′ r
+    records-read w =
+        let answer : r ≡ fileReading count file
+        = w .answer ∙ as-file counted all ∙ sym (ap₂ (λ c x. fileReading c x) (count-is head) (file-read version limit body s head)) in
+        record { answer = answer; stored = w .stored ∙ ap (λ c. sets off 0 (offsetsFrom c 6 (drop 6 s))) (ap (λ r. r .count) answer ∙ kept file) }
+      where
+        kept : (x : Input A) → (fileReading count x) .count ≡ count
+        kept (Accepted S xs) = refl
+        kept (Refused k at) = refl
 
-    pub room : headerCount s ≤ length off′
-    room = omega (arith, ap length all-stored, length-sets off 0 (offsetsFrom n 6 (drop 6 s)))
+  -- ---- what a reading says
 
-    pub stored-at : (i : ℕ) → i < headerCount s → getD off′ i 0 ≡ getD (offsetsFrom (headerCount s) 6 (drop 6 s)) i 0
-    stored-at i l =
-        let many = offsets-length n 6 (drop 6 s) in
-        ap (λ o. getD o i 0) all-stored ∙ sets-at off (offsetsFrom n 6 (drop 6 s)) i (omega arith) (omega arith)
+  module _ {off off′ : List ℕ} {r : Reading} (w : ReadFile file count s off off′ r) where
+    pub offset-small : All Byte s → r .offset < 65536
+    offset-small o = go (eqb (headerReply version limit s) 0) refl
+      where
+        go : (b : Bool) → eqb (headerReply version limit s) 0 ≡ b → r .offset < 65536
+        go true e =
+            let h = eqb-true (headerReply version limit s) 0 e in
+            let q : r ≡ readingOf (length s) count all = w .answer ∙ ap (fileReading count) (file-read version limit body s h) ∙ sym (as-file count all) in
+            omega (arith, ap (λ r. r .offset) q, reading-offset (length s) count all, short version limit s o h)
+        go false e =
+            let h : headerReply version limit s ≡ 0 → ⊥ = eqb-false (headerReply version limit s) 0 e in
+            let q : r .offset ≡ 0 = ap (λ r. r .offset) (w .answer ∙ ap (fileReading count) (file-refused version limit body s (headerReply version limit s) refl h)) in
+            omega arith
+
+    module _ (low : (S n : ℕ) (σ : St) (bs : List ℕ) → Low (one S n σ bs)) (h : r .reply ≡ 0) where
+      record Accepts : Type 0 where
+        things : List A
+        is : file ≡ Accepted S things
+        complete : count ≡ n
+        many : length things ≡ n
+
+      accepts : Accepts
+      accepts = go file refl (w .answer)
+        where
+          go : (x : Input A) → file ≡ x → r ≡ fileReading count x → Accepts
+          go (Refused k at) e q =
+              absurd (let z : r .reply ≡ k = ap (λ r. r .reply) q in omega (arith, file-refused-positive version limit one next first low s k at e))
+          go (Accepted T xs) e q =
+              let f = file-is version limit body s T xs e in
+              let i : T ≡ S = sym (f .inputs) in
+              let g : all ≡ Read xs = subst (λ T. body T n (drop 6 s) ≡ Read xs) i (f .read) in
+              record {
+                things = xs;
+                is = e ∙ ap {B = Input A} (λ T. Accepted T xs) i;
+                complete = count-is (f .header) ∙ count-all (one S n) next s n 6 (first S) xs g;
+                many = records-chain (one S n) next s (λ σ a. Unit {0}) (λ σ l m a q. tt) n 6 (first S) xs g .1;
+              }
+
+      pub reads-all : r .count ≡ headerCount s
+      reads-all = ap (λ r. r .count) (w .answer ∙ ap (fileReading count) (accepts .is)) ∙ accepts .complete
+
+      pub is-accepted : file ≡ Accepted (headerInputs s) (listed file)
+      is-accepted = accepts .is ∙ ap {B = Input A} (Accepted S) (sym (ap listed (accepts .is)))
+
+      pub right-header : Header version limit s
+      right-header = header-is version limit s (file-is version limit body s S (accepts .things) (accepts .is) .header)
+
+      pub many : length (listed file) ≡ headerCount s
+      many = ap (λ x. length (listed x)) (accepts .is) ∙ accepts .many
+
+      pub is-ready : limit ≤ length off → Ready file s off′ (r .count)
+      is-ready l =
+          let stored : off′ ≡ sets off 0 (offsetsFrom (r .count) 6 (drop 6 s))
+          = w .stored ∙ ap (λ c. sets off 0 (offsetsFrom c 6 (drop 6 s))) (accepts .complete ∙ sym reads-all) in
+          let long = offsets-length (r .count) 6 (drop 6 s) in
+          let few = right-header .count in
+          record {
+            accepted = ap isAccepted (accepts .is);
+            count = reads-all;
+            room = omega (arith, ap length stored, length-sets off 0 (offsetsFrom (r .count) 6 (drop 6 s)), reads-all);
+            stored = λ i k. ap (λ o. getD o i 0) stored ∙ sets-at off (offsetsFrom (r .count) 6 (drop 6 s)) i (omega (arith, reads-all)) (omega arith);
+          }

@@ -1,12 +1,14 @@
 -- What the code's values mean: its answers as functions of the definitions.
-use Prim.Native.Nat.{ℕ, zero, suc, _+_, _-_}
+use Prim.Native.Nat.{ℕ, zero, suc, _+_, _-_, _≤_, _<_}
+use mathlib.Core.Path.{_≡_}
 use mathlib.Core.Bool.{Bool, true, false, cond}
 use mathlib.Core.List.{List, [], _∷_}
-use lib.ListN.{length, drop}
+use lib.ListN.{length, drop, getD}
+use lib.Seq.{sets}
 use lib.Dec.{eqb}
 use Rattle.expr.specs.Expr.{Parsed, Whole, Breaks}
 use Rattle.file.specs.Outcome.{Kind, Assume, Assert}
-use Rattle.file.specs.File.{Body, Good, Bad, frame, recordOf, Records, Read, Stop, Input, Accepted, Refused}
+use Rattle.file.specs.File.{headerInputs, headerCount, headerReply, Body, Good, Bad, frame, recordOf, Records, Read, Stop, records, Input, Accepted, Refused}
 use Rattle.file.specs.declared.Reading.{Reading}
 
 -- a reply's number, 0 for none
@@ -26,6 +28,18 @@ exprReply (Breaks bs) = 7
 abbrev pub kindOf : (code : ℕ) → Kind
 kindOf k = cond (eqb k 3) Assert Assume
 
+-- ---- record after record
+
+-- where records stand: the offsets of c of them, from `at` on
+unfoldable pub offsetsFrom : (c at : ℕ) → List ℕ → List ℕ
+offsetsFrom zero at bs = []
+offsetsFrom (suc c) at bs = at ∷ offsetsFrom c (at + (2 + frame bs)) (drop (2 + frame bs) bs)
+
+-- in a file of `total` bytes, with `count` records read
+abbrev pub readingOf : {A : Type 0} → (total count : ℕ) → Records A → Reading
+readingOf total count (Read xs) = record { reply = 0; offset = 0; count = count }
+readingOf total count (Stop r bs) = record { reply = r; offset = total - length bs; count = count }
+
 module _ {A St : Type 0} (one : St → List ℕ → Body A) (next : St → A → St) where
   abbrev pub oneMore : Body A → (A → ℕ) → ℕ
   oneMore (Good a) rest = suc (rest a)
@@ -36,19 +50,12 @@ module _ {A St : Type 0} (one : St → List ℕ → Body A) (next : St → A →
   readCount zero σ bs = 0
   readCount (suc c) σ bs = oneMore (recordOf (one σ) bs) (λ a. readCount c (next σ a) (drop (2 + frame bs) bs))
 
-  abbrev pub afterGood : {B : Type 0} → B → Body A → (A → B) → B
-  afterGood b (Good a) rest = rest a
-  afterGood b (Bad r) rest = b
+  -- the reading of the n records after a header, with the offsets of those that are read stored
+  pub record ReadRecords (s : List ℕ) (n : ℕ) (σ : St) (before after : List ℕ) (r : Reading) : Type 0 where
+    pub answer : r ≡ readingOf (length s) (readCount n σ (drop 6 s)) (records one next n σ (drop 6 s))
+    pub stored : after ≡ sets before 0 (offsetsFrom (r .count) 6 (drop 6 s))
 
-  -- what a function gathers from those that are read before the first refusal
-  unfoldable pub readFold : {B : Type 0} → (B → A → B) → B → (c : ℕ) → St → List ℕ → B
-  readFold f b zero σ bs = b
-  readFold f b (suc c) σ bs = afterGood b (recordOf (one σ) bs) (λ a. readFold f (f b a) c (next σ a) (drop (2 + frame bs) bs))
-
--- in a file of `total` bytes, with `count` records read
-abbrev pub readingOf : {A : Type 0} → (total count : ℕ) → Records A → Reading
-readingOf total count (Read xs) = record { reply = 0; offset = 0; count = count }
-readingOf total count (Stop r bs) = record { reply = r; offset = total - length bs; count = count }
+-- ---- a whole file
 
 abbrev pub isAccepted : {A : Type 0} → Input A → Bool
 isAccepted (Accepted S xs) = true
@@ -58,7 +65,23 @@ abbrev pub listed : {A : Type 0} → Input A → List A
 listed (Accepted S xs) = xs
 listed (Refused r o) = []
 
--- where records stand: the offsets of c of them, from `at` on
-unfoldable pub offsetsFrom : (c at : ℕ) → List ℕ → List ℕ
-offsetsFrom zero at bs = []
-offsetsFrom (suc c) at bs = at ∷ offsetsFrom c (at + (2 + frame bs)) (drop (2 + frame bs) bs)
+abbrev pub fileReading : {A : Type 0} → (count : ℕ) → Input A → Reading
+fileReading count (Accepted S xs) = record { reply = 0; offset = 0; count = count }
+fileReading count (Refused r at) = record { reply = r; offset = at; count = count }
+
+-- of a file's records, how many are read before the first refusal
+abbrev pub fileCount : {A St : Type 0} → (version limit : ℕ) → (one : (S n : ℕ) → St → List ℕ → Body A) → (next : St → A → St) → (first : (S : ℕ) → St) → List ℕ → ℕ
+fileCount version limit one next first s =
+    cond (eqb (headerReply version limit s) 0) (readCount (one (headerInputs s) (headerCount s)) next (headerCount s) (first (headerInputs s)) (drop 6 s)) 0
+
+-- the reading of a file, with the offsets of the records that are read stored
+pub record ReadFile {A : Type 0} (file : Input A) (count : ℕ) (s before after : List ℕ) (r : Reading) : Type 0 where
+  pub answer : r ≡ fileReading count file
+  pub stored : after ≡ sets before 0 (offsetsFrom count 6 (drop 6 s))
+
+-- a file that is accepted, with its n records' offsets stored
+pub record Ready {A : Type 0} (file : Input A) (s offsets : List ℕ) (n : ℕ) : Type 0 where
+  pub accepted : isAccepted file ≡ true
+  pub count : n ≡ headerCount s
+  pub room : n ≤ length offsets
+  pub stored : (i : ℕ) → i < n → getD offsets i 0 ≡ getD (offsetsFrom n 6 (drop 6 s)) i 0

@@ -2,12 +2,12 @@
 -- records before it are stored.
 use Prim.Native.Nat.{ℕ, suc, _+_, _-_, _≤_, _<_}
 use native.Mathlib.Omega.{arith}
-use mathlib.Core.Path.{_≡_, refl, sym, ap, ap₂, _∙_}
+use mathlib.Core.Path.{_≡_, refl, sym, ap, ap₂, _∙_, subst}
 use mathlib.Core.List.{List, []}
 use lib.ListN.{length, drop, set, length-drop}
 use lib.Seq.{sets, length-sets}
 use Rattle.file.specs.File.{Body, Good, Bad, frame, Records, Read, Stop, recordOf, records}
-use Rattle.file.specs.Shown.{readCount, readingOf, offsetsFrom}
+use Rattle.file.specs.Shown.{readCount, readingOf, offsetsFrom, ReadRecords}
 use Rattle.file.specs.FileLaws.{reading-before, records-good, records-bad, count-good, count-bad, records-end, records-spare, offsets-length, Reached, reached-start, reached-next, reached-on, sets-snoc}
 use Rattle.file.specs.declared.Reading.{Reading}
 
@@ -16,9 +16,8 @@ module _ {A St : Type 0} (one : St → List ℕ → Body A) (next : St → A →
   abbrev from : (k c : ℕ) → St → (at : ℕ) → Reading
   from k c σ at = readingOf (length s) (k + readCount one next c σ (drop at s)) (records one next c σ (drop at s))
 
-  pub record Walked (off : List ℕ) (r : Reading) : Type 0 where
-    pub answer : r ≡ readingOf (length s) (readCount one next n σ₀ (drop 6 s)) (records one next n σ₀ (drop 6 s))
-    pub stored : off ≡ sets off₀ 0 (offsetsFrom (r .count) 6 (drop 6 s))
+  abbrev Done : (off : List ℕ) (r : Reading) → Type 0
+  Done off r = ReadRecords one next s n σ₀ off₀ off r
 
   pub record Walking (off : List ℕ) (at k : ℕ) (σ : St) : Type 0 where
     pub inside : at ≤ length s
@@ -53,7 +52,7 @@ module _ {A St : Type 0} (one : St → List ℕ → Body A) (next : St → A →
       pub left : n - k ≡ suc (n - (k + 1))
       left = omega arith
 
-      pub refuse : (r : ℕ) → recordOf (one σ) (drop at s) ≡ Bad r → Walked off (record { reply = r; offset = at; count = k })
+      pub refuse : (r : ℕ) → recordOf (one σ) (drop at s) ≡ Bad r → Done off (record { reply = r; offset = at; count = k })
       refuse r e = record {
         answer =
             sym (
@@ -64,15 +63,16 @@ module _ {A St : Type 0} (one : St → List ℕ → Body A) (next : St → A →
         stored = w .stored;
       }
 
-      pub on : (x : A) → recordOf (one σ) (drop at s) ≡ Good x → at + (2 + frame (drop at s)) ≤ length s
-          → Walking (set off k at) (at + (2 + frame (drop at s))) (k + 1) (next σ x)
-      on x e i =
+      -- with the code's own length of the record
+      pub on : (x : A) → recordOf (one σ) (drop at s) ≡ Good x → (len : ℕ) → len ≡ frame (drop at s) → at + (2 + len) ≤ length s
+          → Walking (set off k at) (at + (2 + len)) (k + 1) (next σ x)
+      on x e len le i =
           let f = at + (2 + frame (drop at s)) in
           let c = n - (k + 1) in
           let m = readCount one next c (next σ x) (drop f s) in
           let p = records one next c (next σ x) (drop f s) in
-          record {
-            inside = i;
+          subst (λ l. Walking (set off k at) (at + (2 + l)) (k + 1) (next σ x)) (sym le) record {
+            inside = subst (λ l. at + (2 + l) ≤ length s) le i;
             few = omega arith;
             same =
                 sym (
@@ -98,13 +98,13 @@ module _ {A St : Type 0} (one : St → List ℕ → Body A) (next : St → A →
           sym (ap₂ (λ j c. from j c σ at) all (let z : n - k ≡ 0 = omega arith in z) ∙ ap (readingOf (length s) (n + 0)) e)
           ∙ w .same
 
-      pub done : at ≡ length s → Walked off (record { reply = 0; offset = 0; count = n })
+      pub done : at ≡ length s → Done off (record { reply = 0; offset = 0; count = n })
       done e = record {
         answer = ap (λ c. record { reply = 0; offset = 0; count = c }) (let z : n ≡ n + 0 = omega arith in z) ∙ ended (Read []) (records-end one next s at σ (omega arith));
         stored = w .stored ∙ ap (λ c. sets off₀ 0 (offsetsFrom c 6 (drop 6 s))) all;
       }
 
-      pub spare : (at ≡ length s → ⊥) → Walked off (record { reply = 5; offset = at; count = n })
+      pub spare : (at ≡ length s → ⊥) → Done off (record { reply = 5; offset = at; count = n })
       spare e = record {
         answer =
             ap₂ (λ o c. record { reply = 5; offset = o; count = c }) (sym offset) (let z : n ≡ n + 0 = omega arith in z)

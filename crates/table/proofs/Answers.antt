@@ -1,99 +1,95 @@
--- The answer to running, by the way that the code takes to it: the header refuses, a record refuses, the bound or the valuation is refused, the
--- table runs.
+-- The answer to running, by the way that the code takes to it: the table is refused, the bound or the valuation is refused, the table runs.
 use Prim.Native.Nat.{ℕ, suc, _+_, _*_, _≤_, _<_}
 use native.Mathlib.Numerals.{add-one}
-use mathlib.Core.Path.{_≡_, refl, sym, ap, ap₂, _∙_}
+use mathlib.Core.Path.{_≡_, sym, ap, ap₂, _∙_, subst}
 use mathlib.Core.Bool.{cond}
 use mathlib.Core.List.{List}
 use lib.ListN.{length}
 use lib.Dec.{leb, eqb}
 use borrow.Author.Tests.{le-leb, lt-leb, eq-eqb, ne-eqb}
+use Rattle.expr.specs.Lists.{All}
+use Rattle.expr.specs.Number.{Byte}
 use Rattle.expr.specs.Eval.{envOf}
-use Rattle.file.specs.File.{headerInputs, headerCount, headerReply, Body, Input, Accepted, Refused}
-use Rattle.file.specs.Shown.{isAccepted, listed}
-use Rattle.file.specs.FileLaws.{file-refused}
-use Rattle.file.specs.WalkLaws.{Walked}
+use Rattle.file.specs.File.{headerInputs, headerCount, headerReply, Body, Accepted, Refused}
+use Rattle.file.specs.Shown.{listed}
+use Rattle.file.specs.FileLaws.{Header}
 use Rattle.file.specs.ReadingLaws as Reading
 use Rattle.file.specs.declared.Reading.{Reading}
-use Rattle.table.specs.Table.{Instr, instr, instrs, readTable}
+use Rattle.table.specs.Table.{Instr, instr, readTable}
 use Rattle.table.specs.TableLaws.{instr-low}
 use Rattle.table.specs.Run.{runFrom, run}
 use Rattle.table.specs.Answer.{refusal, answerOf, answered, runAnswer}
-use Rattle.table.specs.Shown.{ReadRecords, Ready}
+use Rattle.table.specs.Shown.{ReadRecords, ReadTable, Ready}
 
--- ---- the header refuses
+-- ---- the table is read
 
-pub header-refused : (s : List ℕ) (r : ℕ) → r ≡ headerReply 1 1024 s → (r ≡ 0 → ⊥) → readTable s ≡ Refused r 0
-unfolding readTable
-header-refused s r e h = file-refused 1 1024 instrs s r (sym e) h
+abbrev one : (S n : ℕ) → Unit {0} → List ℕ → Body Instr
+one S n u bs = instr S n bs
 
-pub header-refuses : (s : List ℕ) (K : ℕ) (words : List ℕ) (r : ℕ) → r ≡ headerReply 1 1024 s → (r ≡ 0 → ⊥) → refusal r 0 ≡ runAnswer s K words
-unfolding runAnswer
-header-refuses s K words r e h = sym (ap (answered K words) (header-refused s r e h))
+abbrev next : Unit {0} → Instr → Unit {0}
+next u x = u
 
--- ---- the records are read
+abbrev first : (S : ℕ) → Unit {0}
+first S = tt
 
-module _ (s : List ℕ) (head : headerReply 1 1024 s ≡ 0) (off off′ : List ℕ) (r : Reading) (w : ReadRecords s (headerInputs s) (headerCount s) off off′ r) where
-  abbrev S : ℕ
-  S = headerInputs s
-
-  abbrev n : ℕ
-  n = headerCount s
-
-  abbrev one : Unit {0} → List ℕ → Body Instr
-  one u bs = instr (headerInputs s) (headerCount s) bs
-
-  abbrev next : Unit {0} → Instr → Unit {0}
-  next u x = u
-
-  walked : Walked {St = Unit {0}} (λ u. instr (headerInputs s) (headerCount s)) (λ u x. u) s (headerCount s) tt off off′ r
-  walked = record { answer = w .answer; stored = w .stored }
-
-  pub offset-small : r .offset ≤ length s
-  offset-small = Reading.offset-small one next tt 1 1024 instrs s head refl off off′ r walked
-
-  pub record-refused : (r .reply ≡ 0 → ⊥) → readTable s ≡ Refused (r .reply) (r .offset)
+module _ (s : List ℕ) where
+  pub header-read : (r : ℕ) → r ≡ headerReply 1 1024 s → (r ≡ 0 → ⊥) → (off : List ℕ) → ReadTable s off off (record { reply = r; offset = 0; count = 0 })
   unfolding readTable
-  record-refused h = Reading.refuses one next tt 1 1024 instrs s head refl off off′ r walked h
+  header-read = Reading.header-read 1 1024 one next first s
 
-  pub record-refuses : (K : ℕ) (words : List ℕ) → (r .reply ≡ 0 → ⊥) → refusal (r .reply) (r .offset) ≡ runAnswer s K words
-  unfolding runAnswer
-  record-refuses K words h = sym (ap (answered K words) (record-refused h))
+  -- with the code's own count of records
+  pub records-read : headerReply 1 1024 s ≡ 0 → (n : ℕ) → n ≡ headerCount s → {off off′ : List ℕ} {r : Reading} → ReadRecords s (headerInputs s) n off off′ r → ReadTable s off off′ r
+  unfolding readTable
+  records-read h n e {off} {off′} {r} w = Reading.records-read 1 1024 one next first s h (subst (λ n. ReadRecords s (headerInputs s) n off off′ r) e w)
+
+module _ {s off off′ : List ℕ} {r : Reading} (w : ReadTable s off off′ r) where
+  pub offset-small : All Byte s → r .offset < 65536
+  unfolding readTable
+  offset-small = Reading.offset-small 1 1024 one next first s w
 
   module _ (h : r .reply ≡ 0) where
-    a : Reading.Accepts 1 1024 instrs s (r .count)
-    a = Reading.accepts one next tt 1 1024 instrs s head refl off off′ r walked (λ u. instr-low (headerInputs s) (headerCount s)) h
-
-    is : readTable s ≡ Accepted (headerInputs s) (a .things)
+    pub reads-all : r .count ≡ headerCount s
     unfolding readTable
-    is = a .is
+    reads-all = Reading.reads-all 1 1024 one next first s w (λ S n u. instr-low S n) h
 
     pub table-accepted : readTable s ≡ Accepted (headerInputs s) (listed (readTable s))
-    table-accepted = is ∙ ap {B = Input Instr} (Accepted (headerInputs s)) (sym (ap listed is))
+    unfolding readTable
+    table-accepted = Reading.is-accepted 1 1024 one next first s w (λ S n u. instr-low S n) h
 
-    opened : (K : ℕ) (words : List ℕ) → runAnswer s K words ≡ cond (leb K 255) (cond (eqb (length words) S) (answerOf (run (a .things) K words)) (refusal 11 0)) (refusal 8 0)
+    pub right-header : Header 1 1024 s
+    unfolding readTable
+    right-header = Reading.right-header 1 1024 one next first s w (λ S n u. instr-low S n) h
+
+    pub many : length (listed (readTable s)) ≡ headerCount s
+    unfolding readTable
+    many = Reading.many 1 1024 one next first s w (λ S n u. instr-low S n) h
+
+    pub is-ready : 1024 ≤ length off → Ready s off′ (r .count)
+    unfolding readTable
+    is-ready = Reading.is-ready 1 1024 one next first s w (λ S n u. instr-low S n) h
+
+-- ---- the answer
+
+module _ (s : List ℕ) (K : ℕ) (words : List ℕ) where
+  pub table-refuses : (r at : ℕ) → readTable s ≡ Refused r at → refusal r at ≡ runAnswer s K words
+  unfolding runAnswer
+  table-refuses r at e = sym (ap (answered K words) e)
+
+  module _ (S : ℕ) (is : List Instr) (e : readTable s ≡ Accepted S is) where
+    opened : runAnswer s K words ≡ cond (leb K 255) (cond (eqb (length words) S) (answerOf (run is K words)) (refusal 11 0)) (refusal 8 0)
     unfolding runAnswer
-    opened K words = ap (answered K words) is
+    opened = ap (answered K words) e
 
-    pub bound-refused : (K : ℕ) (words : List ℕ) → 255 < K → refusal 8 0 ≡ runAnswer s K words
-    bound-refused K words l = sym (opened K words ∙ rw (lt-leb K 255 l))
+    pub bound-refused : 255 < K → refusal 8 0 ≡ runAnswer s K words
+    bound-refused l = sym (opened ∙ rw (lt-leb K 255 l))
 
-    pub valuation-refused : (K : ℕ) (words : List ℕ) → K ≤ 255 → (length words ≡ S → ⊥) → refusal 11 0 ≡ runAnswer s K words
-    valuation-refused K words l k = sym (opened K words ∙ rw (le-leb K 255 l, ne-eqb (length words) S k))
+    pub valuation-refused : K ≤ 255 → (length words ≡ S → ⊥) → refusal 11 0 ≡ runAnswer s K words
+    valuation-refused l k = sym (opened ∙ rw (le-leb K 255 l, ne-eqb (length words) S k))
 
-    pub ran : (K : ℕ) (words : List ℕ) → K ≤ 255 → length words ≡ S → (vals : List ℕ) → envOf vals ≡ envOf words
-        → answerOf (runFrom (listed (readTable s)) K ((K + 1) * (n + 1)) 0 0 (envOf vals)) ≡ runAnswer s K words
+    pub ran : K ≤ 255 → length words ≡ S → (n : ℕ) → n ≡ length is → (vals : List ℕ) → envOf vals ≡ envOf words
+        → answerOf (runFrom is K ((K + 1) * (n + 1)) 0 0 (envOf vals)) ≡ runAnswer s K words
     unfolding run
-    ran K words l k vals e =
+    ran l k n m vals e =
         ap answerOf (
-        ap₂ (λ is ρ. runFrom is K ((K + 1) * (n + 1)) 0 0 ρ) (ap listed is) e
-        ∙ ap (λ f. runFrom (a .things) K f 0 0 (envOf words)) (ap₂ (λ x y. x * y) (add-one K) (add-one n ∙ ap suc (sym (a .many)))))
-        ∙ sym (opened K words ∙ rw (le-leb K 255 l, eq-eqb (length words) S k))
-
-    pub is-ready : headerCount s ≤ length off → Ready s off′ (headerCount s)
-    is-ready l = record {
-      accepted = ap isAccepted is;
-      count = refl;
-      room = Reading.room one next tt 1 1024 instrs s head refl off off′ r walked a l;
-      stored = Reading.stored-at one next tt 1 1024 instrs s head refl off off′ r walked a l;
-    }
+        ap₂ (λ f ρ. runFrom is K f 0 0 ρ) (ap₂ (λ x y. x * y) (add-one K) (add-one n ∙ ap suc m)) e)
+        ∙ sym (opened ∙ rw (le-leb K 255 l, eq-eqb (length words) S k))

@@ -1,5 +1,4 @@
 pub mod Bodies
-pub mod Walk
 pub mod Held
 pub mod Moves
 pub mod Running

@@ -1,32 +1,37 @@
 -- What the code's values mean: its answers as functions of the definitions.
-use Prim.Native.Nat.{ℕ, _≤_, _<_}
+use Prim.Native.Nat.{ℕ}
 use mathlib.Core.Path.{_≡_}
-use mathlib.Core.Bool.{true, cond}
+use mathlib.Core.Bool.{cond}
 use mathlib.Core.List.{List}
-use lib.ListN.{length, drop, getD}
-use lib.Seq.{sets}
 use lib.Dec.{eqb}
 use Rattle.expr.specs.Token.{Token}
 use Rattle.expr.specs.Eval.{Env, envOf, value}
 use Rattle.file.specs.Outcome.{Lost, verdict, placeOf}
-use Rattle.file.specs.File.{headerCount, Body, Good, Bad}
-use Rattle.file.specs.Shown.{readCount, readingOf, offsetsFrom, isAccepted}
+use Rattle.file.specs.File.{Body, Good, Bad}
+use Rattle.file.specs.Shown as File
+use Rattle.file.specs.Shown.{fileCount, ReadFile}
 use Rattle.file.specs.declared.Reading.{Reading}
 use Rattle.table.specs.declared.steps.Move.{Move}
 use Rattle.table.specs.declared.steps.Move.the-variants as M
-use Rattle.table.specs.Table.{Instr, Assign, Test, IfThenGoto, instr, instrsFrom, readTable}
+use Rattle.table.specs.Table.{Instr, Assign, Test, IfThenGoto, instr, readTable}
 use Rattle.table.specs.Run.{Next, Halt, Go, step}
 
 -- ---- reading
 
--- of c of n instructions, how many are read before the first refusal
-abbrev pub instrCount : (S n c : ℕ) → List ℕ → ℕ
-instrCount S n c bs = readCount {St = Unit {0}} (λ u. instr S n) (λ u a. u) c tt bs
+-- the reading of the n records after a table's header
+abbrev pub ReadRecords : (table : List ℕ) (S n : ℕ) (before after : List ℕ) → Reading → Type 0
+ReadRecords table S n before after r = File.ReadRecords {St = Unit {0}} (λ u. instr S n) (λ u a. u) table n tt before after r
 
--- the reading of the records after a table's header, with the offsets stored
-pub record ReadRecords (table : List ℕ) (S n : ℕ) (before after : List ℕ) (r : Reading) : Type 0 where
-  pub answer : r ≡ readingOf (length table) (instrCount S n n (drop 6 table)) (instrsFrom S n n (drop 6 table))
-  pub stored : after ≡ sets before 0 (offsetsFrom (r .count) 6 (drop 6 table))
+abbrev pub instrCount : (table : List ℕ) → ℕ
+instrCount table = fileCount {St = Unit {0}} 1 1024 (λ S n u. instr S n) (λ u a. u) (λ S. tt) table
+
+-- the reading of a table
+abbrev pub ReadTable : (table before after : List ℕ) → Reading → Type 0
+ReadTable table before after r = ReadFile (readTable table) (instrCount table) table before after r
+
+-- a table that is accepted, with its n records' offsets stored
+abbrev pub Ready : (table offsets : List ℕ) (n : ℕ) → Type 0
+Ready table offsets n = File.Ready (readTable table) table offsets n
 
 -- ---- running
 
@@ -57,10 +62,3 @@ valueIn (Bad r) ρ = 0
 abbrev pub stepBody : (n K i r : ℕ) → Body Instr → Env → Next
 stepBody n K i r (Good x) ρ = step n K i r x ρ
 stepBody n K i r (Bad reply) ρ = Halt Lost
-
--- a table that is accepted, with its n records' offsets stored
-pub record Ready (table offsets : List ℕ) (n : ℕ) : Type 0 where
-  pub accepted : isAccepted (readTable table) ≡ true
-  pub count : n ≡ headerCount table
-  pub room : n ≤ length offsets
-  pub stored : (i : ℕ) → i < n → getD offsets i 0 ≡ getD (offsetsFrom n 6 (drop 6 table)) i 0

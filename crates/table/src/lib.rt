@@ -2,7 +2,6 @@
 pub mod read;
 mod steps;
 
-use expr::number;
 ghost use mathlib.Core.Path.{_≡_};
 ghost use Rattle.table.specs.Answer.{runAnswer};
 
@@ -19,14 +18,8 @@ pub struct Answer {
 pub fn run(table: &[u8], bound: u64, words: &[u32]) -> Answer
     ensures { λ r. ⌜ r ≡ runAnswer (now (table .entry)) bound (now (words .entry)) ⌝ }
 {
-    let head = file::header_reply(table, 1, 1024);
-    if head != 0 {
-        return steps::refused(head as u32, 0);
-    }
-    let inputs = number::byte_at(table, 3);
-    let n = number::two_at(table, 4);
     let mut offsets: [u16; 1024] = [0; 1024];
-    let t = read::read_records(table, inputs, n, &mut offsets);
+    let t = read::read_table(table, &mut offsets);
     let reply = t.reply;
     if reply != 0 {
         return steps::refused(reply as u32, t.offset as u32);
@@ -34,9 +27,10 @@ pub fn run(table: &[u8], bound: u64, words: &[u32]) -> Answer
     if 255 < bound {
         return steps::refused(8, 0);
     }
-    if words.len() != inputs {
+    if words.len() != table[3] as usize {
         return steps::refused(11, 0);
     }
+    let n = t.count;
     let mut vals: [u32; 64] = [0; 64];
     file::copy_words(words, &mut vals);
     steps::run_from(table, &offsets, n, bound as usize, &mut vals)

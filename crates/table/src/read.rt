@@ -11,7 +11,7 @@ ghost use Rattle.expr.specs.declared.File.the-variants.{Table};
 ghost use Rattle.expr.specs.Expr.{below, parse};
 ghost use Rattle.file.specs.Shown.{replyOf, exprReply};
 ghost use Rattle.table.specs.Table.{instr};
-ghost use Rattle.table.specs.Shown.{exprStart, ReadRecords};
+ghost use Rattle.table.specs.Shown.{exprStart, ReadRecords, ReadTable};
 
 // The expression from a place of a record on: 0, or 7.
 fn expr_reply(body: &[u8], from: usize, inputs: usize) -> u8
@@ -60,7 +60,7 @@ fn body_reply(body: &[u8], inputs: usize, n: usize) -> u8
 }
 
 // Reads the records after the header, and stores their offsets.
-pub fn read_records(table: &[u8], inputs: usize, n: usize, offsets: &mut [u16]) -> Reading
+fn read_records(table: &[u8], inputs: usize, n: usize, offsets: &mut [u16]) -> Reading
     requires { ⌜ (6 ≤ length (now table)) × (length (now table) < 65536) × (n ≤ length (now offsets)) ⌝ }
     ensures { λ r. ⌜ ReadRecords (now (table .entry)) inputs n (now (offsets .entry)) (now (offsets .exit)) r ⌝ }
 {
@@ -99,6 +99,24 @@ pub fn read_records(table: &[u8], inputs: usize, n: usize, offsets: &mut [u16]) 
         offset: at,
         count: n,
     }
+}
+
+// Reads any bytes as a table: the reply that they get, with its offset, or 0 with the offsets of all records stored.
+pub fn read_table(table: &[u8], offsets: &mut [u16]) -> Reading
+    requires { ⌜ 1024 ≤ length (now offsets) ⌝ }
+    ensures { λ r. ⌜ ReadTable (now (table .entry)) (now (offsets .entry)) (now (offsets .exit)) r ⌝ }
+{
+    let head = file::header_reply(table, 1, 1024);
+    if head != 0 {
+        return Reading {
+            reply: head,
+            offset: 0,
+            count: 0,
+        };
+    }
+    let inputs = table[3] as usize;
+    let n = number::two_at(table, 4);
+    read_records(table, inputs, n, offsets)
 }
 
 // Where the expression begins in a record of a kind.
