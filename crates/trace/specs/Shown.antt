@@ -1,22 +1,22 @@
 -- What the code's values mean: its answers as functions of the definitions.
-use Prim.Native.Nat.{ℕ, suc, _+_, _≤_, _<_}
+use Prim.Native.Nat.{ℕ, suc, _+_}
 use mathlib.Core.Path.{_≡_}
 use mathlib.Core.Bool.{Bool, true, cond}
 use mathlib.Core.List.{List}
-use lib.ListN.{length, drop, getD, set}
-use lib.Seq.{sets}
+use lib.ListN.{set}
 use lib.Dec.{eqb}
 use Rattle.expr.specs.Token.{Token}
 use Rattle.expr.specs.Expr.{below, readable}
 use Rattle.expr.specs.Eval.{Env, envOf, update, value}
 use Rattle.expr.specs.Word.{truthy}
 use Rattle.file.specs.Outcome.{Outcome, Lost, Failed, verdict, placeOf}
-use Rattle.file.specs.File.{headerCount, Body, Good, Bad, recordOf}
-use Rattle.file.specs.Shown.{readCount, readFold, readingOf, offsetsFrom, isAccepted}
+use Rattle.file.specs.File.{Body, Good, Bad, recordOf}
+use Rattle.file.specs.Shown as File
+use Rattle.file.specs.Shown.{fileCount, ReadFile}
 use Rattle.file.specs.declared.Reading.{Reading}
 use Rattle.trace.specs.declared.steps.Move.{Move}
 use Rattle.trace.specs.declared.steps.Move.the-variants as M
-use Rattle.trace.specs.Trace.{Stmt, Assign, Test, Seen, see, stmt, stmtsFrom, readTrace}
+use Rattle.trace.specs.Trace.{Stmt, Assign, Test, Seen, atFirst, see, stmt, readTrace}
 
 -- ---- reading
 
@@ -37,18 +37,20 @@ abbrev pub markedBy : Body Stmt → List Bool → List Bool
 markedBy (Good x) assigned = mark assigned x
 markedBy (Bad r) assigned = assigned
 
--- of c statements, how many are read before the first refusal, and the symbols that they assign
-abbrev pub stmtCount : (S c : ℕ) → Seen → List ℕ → ℕ
-stmtCount S c σ bs = readCount (stmt (S + 4096)) see c σ bs
+-- the reading of the n records after a trace's header
+abbrev pub ReadRecords : (trace : List ℕ) (S n : ℕ) (before after : List ℕ) → Reading → Type 0
+ReadRecords trace S n before after r = File.ReadRecords (stmt (S + 4096)) see trace n (atFirst S) before after r
 
-abbrev pub marksFrom : (S c : ℕ) → Seen → List Bool → List ℕ → List Bool
-marksFrom S c σ assigned bs = readFold (stmt (S + 4096)) see mark assigned c σ bs
+abbrev pub stmtCount : (trace : List ℕ) → ℕ
+stmtCount trace = fileCount 129 4096 (λ S n. stmt (S + 4096)) see atFirst trace
 
--- the reading of the records after a trace's header, with the offsets stored and the assigned symbols marked
-pub record ReadRecords (trace : List ℕ) (S n : ℕ) (before after : List ℕ) (marks marks′ : List Bool) (r : Reading) : Type 0 where
-  pub answer : r ≡ readingOf (length trace) (stmtCount S n (seen S S marks) (drop 6 trace)) (stmtsFrom S n (seen S S marks) (drop 6 trace))
-  pub stored : after ≡ sets before 0 (offsetsFrom (r .count) 6 (drop 6 trace))
-  pub marked : marks′ ≡ marksFrom S n (seen S S marks) marks (drop 6 trace)
+-- the reading of a trace
+abbrev pub ReadTrace : (trace before after : List ℕ) → Reading → Type 0
+ReadTrace trace before after r = ReadFile (readTrace trace) (stmtCount trace) trace before after r
+
+-- a trace that is accepted, with its n records' offsets stored
+abbrev pub Ready : (trace offsets : List ℕ) (n : ℕ) → Type 0
+Ready trace offsets n = File.Ready (readTrace trace) trace offsets n
 
 -- ---- judging
 
@@ -91,10 +93,3 @@ Moved (On τ) m cells = (m ≡ M.Go) × (envOf cells ≡ τ)
 
 abbrev pub endOf : Outcome → Move
 endOf o = M.End (verdict o) (placeOf o)
-
--- a trace that is accepted, with its n records' offsets stored
-pub record Ready (trace offsets : List ℕ) (n : ℕ) : Type 0 where
-  pub accepted : isAccepted (readTrace trace) ≡ true
-  pub count : n ≡ headerCount trace
-  pub room : n ≤ length offsets
-  pub stored : (i : ℕ) → i < n → getD offsets i 0 ≡ getD (offsetsFrom n 6 (drop 6 trace)) i 0

@@ -2,7 +2,6 @@
 pub mod read;
 mod steps;
 
-use expr::number;
 ghost use mathlib.Core.Path.{_≡_};
 ghost use Rattle.trace.specs.Answer.{judgeAnswer};
 
@@ -18,22 +17,16 @@ pub struct Answer {
 pub fn judge(trace: &[u8], words: &[u32]) -> Answer
     ensures { λ r. ⌜ r ≡ judgeAnswer (now (trace .entry)) (now (words .entry)) ⌝ }
 {
-    let head = file::header_reply(trace, 129, 4096);
-    if head != 0 {
-        return steps::refused(head as u32, 0);
-    }
-    let inputs = number::byte_at(trace, 3);
-    let n = number::two_at(trace, 4);
     let mut offsets: [u16; 4096] = [0; 4096];
-    let mut assigned: [bool; 4160] = [false; 4160];
-    let t = read::read_records(trace, inputs, n, &mut offsets, &mut assigned);
+    let t = read::read_trace(trace, &mut offsets);
     let reply = t.reply;
     if reply != 0 {
         return steps::refused(reply as u32, t.offset as u32);
     }
-    if words.len() != inputs {
+    if words.len() != trace[3] as usize {
         return steps::refused(11, 0);
     }
+    let n = t.count;
     let mut cells: [u32; 4160] = [0; 4160];
     file::copy_words(words, &mut cells);
     steps::judge_from(trace, &offsets, n, &mut cells)

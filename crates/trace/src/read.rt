@@ -13,7 +13,7 @@ ghost use Rattle.expr.specs.Expr.{readable, parse};
 ghost use Rattle.file.specs.File.{recordOf};
 ghost use Rattle.file.specs.Shown.{replyOf, isGood, exprReply};
 ghost use Rattle.trace.specs.Trace.{stmt};
-ghost use Rattle.trace.specs.Shown.{exprStart, seen, leastAfter, markedBy, ReadRecords};
+ghost use Rattle.trace.specs.Shown.{exprStart, seen, leastAfter, markedBy, ReadRecords, ReadTrace};
 
 // The expression from a place of a record on: 0, or 7.
 fn expr_reply(body: &[u8], from: usize, inputs: usize, assigned: &[bool]) -> u8
@@ -74,17 +74,12 @@ fn learn(trace: &[u8], at: usize, inputs: usize, least: usize, assigned: &mut [b
     least
 }
 
-// Reads the records after the header, stores their offsets and marks the symbols that they assign.
-pub fn read_records(
-    trace: &[u8],
-    inputs: usize,
-    n: usize,
-    offsets: &mut [u16],
-    assigned: &mut [bool],
-) -> Reading
-    requires { ⌜ (6 ≤ length (now trace)) × (length (now trace) < 65536) × (inputs ≤ 64) × (n ≤ length (now offsets)) × (length (now assigned) ≡ 4160) ⌝ }
-    ensures { λ r. ⌜ ReadRecords (now (trace .entry)) inputs n (now (offsets .entry)) (now (offsets .exit)) (now (assigned .entry)) (now (assigned .exit)) r ⌝ }
+// Reads the records after the header, and stores their offsets.
+fn read_records(trace: &[u8], inputs: usize, n: usize, offsets: &mut [u16]) -> Reading
+    requires { ⌜ (6 ≤ length (now trace)) × (length (now trace) < 65536) × (inputs ≤ 64) × (n ≤ length (now offsets)) ⌝ }
+    ensures { λ r. ⌜ ReadRecords (now (trace .entry)) inputs n (now (offsets .entry)) (now (offsets .exit)) r ⌝ }
 {
+    let mut assigned: [bool; 4160] = [false; 4160];
     let mut at: usize = 6;
     let mut k: usize = 0;
     let mut least = inputs;
@@ -97,7 +92,7 @@ pub fn read_records(
                 count: k,
             };
         }
-        let reply = body_reply(&trace[at + 2..at + (2 + len)], inputs, least, &*assigned);
+        let reply = body_reply(&trace[at + 2..at + (2 + len)], inputs, least, &assigned);
         if reply != 0 {
             return Reading {
                 reply: reply,
@@ -106,7 +101,7 @@ pub fn read_records(
             };
         }
         offsets[k] = at as u16;
-        least = learn(trace, at, inputs, least, &mut *assigned);
+        least = learn(trace, at, inputs, least, &mut assigned);
         at += 2 + len;
         k += 1;
     }
@@ -122,6 +117,24 @@ pub fn read_records(
         offset: at,
         count: n,
     }
+}
+
+// Reads any bytes as a trace: the reply that they get, with its offset, or 0 with the offsets of all records stored.
+pub fn read_trace(trace: &[u8], offsets: &mut [u16]) -> Reading
+    requires { ⌜ 4096 ≤ length (now offsets) ⌝ }
+    ensures { λ r. ⌜ ReadTrace (now (trace .entry)) (now (offsets .entry)) (now (offsets .exit)) r ⌝ }
+{
+    let head = file::header_reply(trace, 129, 4096);
+    if head != 0 {
+        return Reading {
+            reply: head,
+            offset: 0,
+            count: 0,
+        };
+    }
+    let inputs = trace[3] as usize;
+    let n = number::two_at(trace, 4);
+    read_records(trace, inputs, n, offsets)
 }
 
 // Where the expression begins in a record of a kind.
