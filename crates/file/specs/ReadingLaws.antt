@@ -121,7 +121,7 @@ module _ {A St : Type 0} (version limit : ℕ) (one : (S n : ℕ) → St → Lis
                 many = records-chain (one S n) next s (λ σ a. Unit {0}) (λ σ l m a q. tt) n 6 (first S) xs g .1;
               }
 
-      pub reads-all : r .count ≡ headerCount s
+      reads-all : r .count ≡ headerCount s
       reads-all = ap (λ r. r .count) (w .answer ∙ ap (fileReading count) (accepts .is)) ∙ accepts .complete
 
       pub is-accepted : file ≡ Accepted (headerInputs s) (listed file)

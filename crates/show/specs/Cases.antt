@@ -1,8 +1,6 @@
 -- Document 01's printed slice of the small rule, letter by letter, and refusals: computed.
-use Prim.Native.Nat.{ℕ}
 use mathlib.Core.Path.{_≡_, refl}
-use mathlib.Core.List.{List, [], _∷_}
-use lib.Count.{ones}
+use mathlib.Core.List.{[], _∷_}
 use Rattle.expr.specs.Word.{Not, Neg, Zero, Add, Sub, Mul, Udiv, Urem, And, Or, Xor, Shl, Lshr, Equal, Ult, Ule, Slt}
 use Rattle.expr.specs.Token.{Const, Symbol, Un, Bin, Ite, operator, readToken}
 use Rattle.expr.specs.Expr.{fits, parseFrom}

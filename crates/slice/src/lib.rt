@@ -5,7 +5,6 @@ mod mask;
 mod reads;
 mod sets;
 
-use expr::number;
 use trace::read;
 ghost use mathlib.Core.Path.{_≡_};
 ghost use Rattle.slice.specs.Answer.{refusal, numbers, SliceWritten};
@@ -36,19 +35,13 @@ fn refused(reply: u32, offset: u32) -> Answer
 pub fn slice_trace(trace: &[u8], out: &mut [u8]) -> Answer
     ensures { λ r. ⌜ SliceWritten (now (trace .entry)) (now (out .entry)) (now (out .exit)) r ⌝ }
 {
-    let head = file::header_reply(trace, 129, 4096);
-    if head != 0 {
-        return refused(head as u32, 0);
-    }
-    let inputs = number::byte_at(trace, 3);
-    let n = number::two_at(trace, 4);
     let mut offsets: [u16; 4096] = [0; 4096];
-    let mut assigned = sets::clear();
-    let t = read::read_records(trace, inputs, n, &mut offsets, &mut assigned);
+    let t = read::read_trace(trace, &mut offsets);
     let reply = t.reply;
     if reply != 0 {
         return refused(reply as u32, t.offset as u32);
     }
+    let n = t.count;
     let mut flags: [bool; 4096] = [false; 4096];
     let mut needed = sets::clear();
     let k = back::walk_back(trace, &offsets, n, &mut flags, &mut needed);
@@ -56,6 +49,7 @@ pub fn slice_trace(trace: &[u8], out: &mut [u8]) -> Answer
     if out.len() < total {
         return refused(10, 0);
     }
+    let inputs = trace[3] as usize;
     let to = write::put_header(129, total, inputs, k.count, out);
     let _ = copy::copy_kept(trace, &offsets, n, &flags, out, to);
     let mask = mask::mask_of(&needed, inputs);

@@ -48,10 +48,6 @@ module _ {s off off′ : List ℕ} {r : Reading} (w : ReadTable s off off′ r) 
   offset-small = Reading.offset-small 1 1024 one next first s w
 
   module _ (h : r .reply ≡ 0) where
-    pub reads-all : r .count ≡ headerCount s
-    unfolding readTable
-    reads-all = Reading.reads-all 1 1024 one next first s w (λ S n u. instr-low S n) h
-
     pub table-accepted : readTable s ≡ Accepted (headerInputs s) (listed (readTable s))
     unfolding readTable
     table-accepted = Reading.is-accepted 1 1024 one next first s w (λ S n u. instr-low S n) h

@@ -5,7 +5,6 @@ mod size;
 mod tokens;
 
 use copy::Front;
-use expr::number;
 use table::read;
 ghost use mathlib.Core.Path.{_≡_};
 ghost use Prim.Native.Nat.{ℕ, _+_, _*_, _≤_};
@@ -81,14 +80,8 @@ fn write_all(
 pub fn write_trace(table: &[u8], bound: u64, out: &mut [u8]) -> Answer
     ensures { λ r. ⌜ TraceWritten (now (table .entry)) bound (now (out .entry)) (now (out .exit)) r ⌝ }
 {
-    let head = file::header_reply(table, 1, 1024);
-    if head != 0 {
-        return refused(head as u32, 0);
-    }
-    let inputs = number::byte_at(table, 3);
-    let n = number::two_at(table, 4);
     let mut offsets: [u16; 1024] = [0; 1024];
-    let t = read::read_records(table, inputs, n, &mut offsets);
+    let t = read::read_table(table, &mut offsets);
     let reply = t.reply;
     if reply != 0 {
         return refused(reply as u32, t.offset as u32);
@@ -97,6 +90,7 @@ pub fn write_trace(table: &[u8], bound: u64, out: &mut [u8]) -> Answer
         return refused(8, 0);
     }
     let k = bound as usize;
+    let n = t.count;
     let count = 1 + (k + 1) * (n + 1);
     if 4096 < count {
         return refused(9, 0);
@@ -108,6 +102,7 @@ pub fn write_trace(table: &[u8], bound: u64, out: &mut [u8]) -> Answer
     if out.len() < total {
         return refused(10, 0);
     }
+    let inputs = table[3] as usize;
     write_all(table, &offsets, inputs, n, k, count, total, out);
     Answer {
         reply: 0,

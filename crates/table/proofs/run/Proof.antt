@@ -14,7 +14,8 @@ use Rattle.file.specs.Shown.{listed}
 use Rattle.file.specs.FileLaws.{Header, copy-env}
 use Rattle.file.specs.ReadingLaws.{reply-refuses}
 use Rattle.table.specs.Table.{readTable}
-use Rattle.table.proofs.Answers.{offset-small, reads-all, table-accepted, right-header, many, is-ready, table-refuses, bound-refused, valuation-refused, ran}
+use Rattle.table.specs.Shown.{Ready}
+use Rattle.table.proofs.Answers.{offset-small, table-accepted, right-header, many, is-ready, table-refuses, bound-refused, valuation-refused, ran}
 use Rattle.table.proofs.run.Statement.{statement}
 use Rattle.table.proofs.run.Tie as tie
 
@@ -52,6 +53,15 @@ module _ (c : tie.Else1) where
   head : Header 1 1024 s
   head = right-header (c .before .before .read-table .ensures) (c .if1 .left)
 
+  abbrev n : ℕ
+  n = c .before .before .read-table .result .count
+
+  ready : Ready s (c .before .before .read-table .last .1 .0) n
+  ready = is-ready (c .before .before .read-table .ensures) (c .if1 .left) (omega (arith, length-replicate {A = ℕ} 1024 0))
+
+  count-is : n ≡ length (listed (readTable s))
+  count-is = ready .count ∙ sym (many (c .before .before .read-table .ensures) (c .if1 .left))
+
 returns-2 : tie.Need-returns-2
 returns-2 c = c .refused2 .ensures ∙ bound-refused _ _ _ _ _ (accepted (c .before .before)) (c .before .if2 .taken)
 
@@ -83,15 +93,14 @@ run-from-requires : tie.Need-run-from-requires
 run-from-requires c κs =
     let a = c .before .before .before .before .before .before .before .before in
     let words = c .before .before .before .before .before .before .before .before .before .before .before .before .before .before .args .words .now in
-    (c .before .before .before .before .before .before .before .if2 .left, is-ready (a .before .before .read-table .ensures) (a .if1 .left) (omega (arith, length-replicate {A = ℕ} 1024 0)), omega (arith, head a .inputs, ap length (c .before .before .before .copy-words .ensures), length-sets (replicate 64 0) 0 words, length-replicate {A = ℕ} 64 0))
+    (c .before .before .before .before .before .before .before .if2 .left, ready a, omega (arith, head a .inputs, ap length (c .before .before .before .copy-words .ensures), length-sets (replicate 64 0) 0 words, length-replicate {A = ℕ} 64 0))
 
 returns-4 : tie.Need-returns-4
 returns-4 c =
     let a = c .before .before .before .before .before .before .before .before .before .before in
     let words = c .before .before .before .before .before .before .before .before .before .before .before .before .before .before .before .before .args .words .now in
-    let t = a .before .before .read-table .ensures in
     c .before .run-from .ensures
-    ∙ ran _ _ _ _ _ (accepted a) (c .before .before .before .before .before .before .before .before .before .if2 .left) (c .before .before .before .before .before .before .before .if3 .left) _ (reads-all t (a .if1 .left) ∙ sym (many t (a .if1 .left))) (c .before .before .before .before .before .copy-words .last .1 .0)
+    ∙ ran _ _ _ _ _ (accepted a) (c .before .before .before .before .before .before .before .before .before .if2 .left) (c .before .before .before .before .before .before .before .if3 .left) _ (count-is a) (c .before .before .before .before .before .copy-words .last .1 .0)
     (ap envOf (c .before .before .before .before .before .copy-words .ensures) ∙ copy-env 64 words (omega (arith, c .before .before .before .before .before .before .before .if3 .left, head a .inputs)))
 
 pub run-spec : {M : Type 1} → statement M

@@ -1,16 +1,15 @@
 -- The header refuses, or the records answer.
 use Prim.Native.Nat.{ℕ, _<_}
 use native.Mathlib.Omega.{arith}
-use mathlib.Core.Path.{_≡_, sym, _∙_, subst}
+use mathlib.Core.Path.{_≡_, sym, _∙_}
 use mathlib.Core.List.{List}
 use lib.ListN.{length}
 use borrow.Author.Needs.{needs}
 use Rattle.expr.specs.Lists.{all-at}
 use Rattle.expr.specs.Number.{Byte}
-use Rattle.file.specs.File.{headerInputs, headerReply}
+use Rattle.file.specs.File.{headerReply}
 use Rattle.file.specs.FileLaws.{Header, header-is}
 use Rattle.file.specs.ReadingLaws.{short}
-use Rattle.trace.specs.Shown.{ReadRecords}
 use Rattle.trace.proofs.Answers.{header-read, records-read}
 use Rattle.trace.proofs.read.read_trace.Statement.{statement}
 use Rattle.trace.proofs.read.read_trace.Tie as tie
