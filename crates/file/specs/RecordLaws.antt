@@ -9,6 +9,7 @@ use Rattle.expr.specs.Lists.{drop-take}
 use Rattle.expr.specs.Number.{numberOf}
 use Rattle.expr.specs.NumberLaws.{number-take}
 use Rattle.file.specs.File.{Body, Good, frame, recordOf}
+use Rattle.file.specs.Shown.{restOf}
 use Rattle.file.specs.FileLaws.{framed, record-good}
 
 module _ {A : Type 0} (one : List ℕ → Body A) (s : List ℕ) (at : ℕ) (a : A) (g : recordOf one (drop at s) ≡ Good a) where
@@ -33,17 +34,17 @@ module _ {A : Type 0} (one : List ℕ → Body A) (s : List ℕ) (at : ℕ) (a :
   pub body-some : 0 < length body
   body-some = omega (arith, body-length, is-frame, some .0)
 
-  pub body-inside : at + 2 + numberOf 2 (drop at s) ≤ length s
+  pub body-inside : at + (2 + numberOf 2 (drop at s)) ≤ length s
   body-inside = omega (arith, is-frame, inside)
 
   from : (k : ℕ) → drop k (drop 2 (drop at s)) ≡ drop (at + (2 + k)) s
   from k = drop-drop k 2 (drop at s) ∙ drop-drop (2 + k) at s
 
   -- the bytes of the body from k on
-  pub body-part : (k : ℕ) → drop k body ≡ take (at + 2 + numberOf 2 (drop at s) - (at + (2 + k))) (drop (at + (2 + k)) s)
+  pub body-part : (k : ℕ) → drop k body ≡ restOf s at (2 + k)
   body-part k =
       drop-take k (frame (drop at s)) (drop 2 (drop at s))
-      ∙ ap₂ (λ m r. take m r) (let e : frame (drop at s) - k ≡ at + 2 + numberOf 2 (drop at s) - (at + (2 + k)) = omega (arith, is-frame) in e) (from k)
+      ∙ ap₂ (λ m r. take m r) (let e : frame (drop at s) - k ≡ 2 + numberOf 2 (drop at s) - (2 + k) = omega (arith, is-frame) in e) (from k)
 
   pub body-kind : getD body 0 0 ≡ getD s (at + 2) 0
   body-kind =

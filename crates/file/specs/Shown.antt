@@ -3,9 +3,10 @@ use Prim.Native.Nat.{ℕ, zero, suc, _+_, _-_, _≤_, _<_}
 use mathlib.Core.Path.{_≡_}
 use mathlib.Core.Bool.{Bool, true, false, cond}
 use mathlib.Core.List.{List, [], _∷_}
-use lib.ListN.{length, drop, getD}
+use lib.ListN.{length, take, drop, getD}
 use lib.Seq.{sets}
 use lib.Dec.{eqb}
+use Rattle.expr.specs.Number.{numberOf}
 use Rattle.expr.specs.Expr.{Parsed, Whole, Breaks}
 use Rattle.file.specs.Outcome.{Kind, Assume, Assert}
 use Rattle.file.specs.File.{headerInputs, headerCount, headerReply, Body, Good, Bad, frame, recordOf, Records, Read, Stop, records, Input, Accepted, Refused}
@@ -27,6 +28,10 @@ exprReply (Breaks bs) = 7
 -- a test's kind by its code
 abbrev pub kindOf : (code : ℕ) → Kind
 kindOf k = cond (eqb k 3) Assert Assume
+
+-- the bytes of the record at an offset, from one of them on
+abbrev pub restOf : (s : List ℕ) (at from : ℕ) → List ℕ
+restOf s at from = take (2 + numberOf 2 (drop at s) - from) (drop (at + from) s)
 
 -- ---- record after record
 

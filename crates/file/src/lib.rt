@@ -1,10 +1,12 @@
 // What tables and traces share: the header and the framing of records (document 01, "Table and trace bytes").
 use expr::number;
 ghost use mathlib.Core.Path.{_≡_};
-ghost use Prim.Native.Nat.{_≤_};
+ghost use Prim.Native.Nat.{_+_, _≤_};
 ghost use lib.ListN.{length, drop};
 ghost use lib.Seq.{sets};
+ghost use Rattle.expr.specs.Number.{numberOf};
 ghost use Rattle.file.specs.File.{headerReply, frame};
+ghost use Rattle.file.specs.Shown.{restOf};
 
 // How far the records of a file were read: a reply with its offset, 0 if all are there and nothing after them; and the number of records
 // that were read before it.
@@ -50,6 +52,15 @@ pub fn frame_at(s: &[u8], at: usize) -> usize
         return 0;
     }
     len
+}
+
+// The bytes of the record at a place, from one of them on.
+pub fn rest_of(s: &[u8], at: usize, from: usize) -> &[u8]
+    requires { ⌜ (from ≤ 2 + numberOf 2 (drop at (now s))) × (at + (2 + numberOf 2 (drop at (now s))) ≤ length (now s)) ⌝ }
+    ensures { λ r. ⌜ now r ≡ restOf (now (s .entry)) at from ⌝ }
+{
+    let end = at + (2 + number::two_at(s, at));
+    &s[at + from..end]
 }
 
 // Copies the words of a valuation to the front of an array.

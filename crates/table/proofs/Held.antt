@@ -10,23 +10,23 @@ use Rattle.expr.specs.declared.File.the-variants.{Table}
 use Rattle.expr.specs.Number.{numberOf}
 use Rattle.expr.specs.Token.{Token}
 use Rattle.expr.specs.Expr.{below, Whole, parse}
-use Rattle.file.specs.Outcome.{Assume, Assert}
+use Rattle.file.specs.Outcome.{Kind, Assume, Assert}
 use Rattle.file.specs.File.{Body, Good, Bad, frame, recordOf}
-use Rattle.file.specs.Shown.{isGood, kindOf}
+use Rattle.file.specs.Shown.{isGood, kindOf, restOf}
 use Rattle.file.specs.RecordLaws.{read-body, body-length, body-some, body-inside, body-part, body-kind, body-number}
 use Rattle.table.specs.Table.{Instr, Assign, Test, IfThenGoto, instr}
 use Rattle.table.specs.TableLaws.{Says, says-assign, says-assume, says-assert, says-goto, says}
-use Rattle.table.specs.Shown.{exprStart, exprOf}
+use Rattle.table.specs.Shown.{exprStart, exprPart, exprOf}
 
 -- ---- the record at an offset
 
 pub record Held (T n : ℕ) (s : List ℕ) (at : ℕ) : Type 0 where
   pub instruction : Instr
   pub is : recordOf (instr T n) (drop at s) ≡ Good instruction
-  pub whole : at + 2 + numberOf 2 (drop at s) ≤ length s
+  pub whole : at + (2 + numberOf 2 (drop at s)) ≤ length s
   pub kind-there : at + 2 < length s
-  pub starts : at + exprStart (getD s (at + 2) 0) ≤ at + 2 + numberOf 2 (drop at s)
-  pub parsed : parse Table (below T) (take (at + 2 + numberOf 2 (drop at s) - (at + exprStart (getD s (at + 2) 0))) (drop (at + exprStart (getD s (at + 2) 0)) s)) ≡ Whole (exprOf instruction)
+  pub starts : exprStart (getD s (at + 2) 0) ≤ 2 + numberOf 2 (drop at s)
+  pub parsed : parse Table (below T) (exprPart s at) ≡ Whole (exprOf instruction)
   pub assigns : getD s (at + 2) 0 ≡ 1 → (instruction ≡ Assign (numberOf 1 (drop (at + 3) s)) (exprOf instruction)) × (numberOf 1 (drop (at + 3) s) < T) × (at + 4 ≤ length s)
   pub jumps : getD s (at + 2) 0 ≡ 4 → (instruction ≡ IfThenGoto (numberOf 2 (drop (at + 3) s)) (exprOf instruction)) × (numberOf 2 (drop (at + 3) s) ≤ n) × (at + 5 ≤ length s)
   pub tests : (getD s (at + 2) 0 ≡ 1 → ⊥) → (getD s (at + 2) 0 ≡ 4 → ⊥) → instruction ≡ Test (kindOf (getD s (at + 2) 0)) (exprOf instruction)
@@ -40,7 +40,7 @@ module _ (T n : ℕ) (s : List ℕ) (at : ℕ) where
     long : length body ≡ numberOf 2 (drop at s)
     long = body-length (instr T n) s at x g
 
-    inside : at + 2 + numberOf 2 (drop at s) ≤ length s
+    inside : at + (2 + numberOf 2 (drop at s)) ≤ length s
     inside = body-inside (instr T n) s at x g
 
     kind : getD body 0 0 ≡ getD s (at + 2) 0
@@ -50,17 +50,28 @@ module _ (T n : ℕ) (s : List ℕ) (at : ℕ) where
     number j h = body-number (instr T n) s at x g 1 j h
 
     -- the expression from k on, where the kind's expression begins at 2 + k
-    place : (k : ℕ) → exprStart (getD s (at + 2) 0) ≡ 2 + k → (e : List Token) → parse Table (below T) (drop k body) ≡ Whole e
-        → parse Table (below T) (take (at + 2 + numberOf 2 (drop at s) - (at + exprStart (getD s (at + 2) 0))) (drop (at + exprStart (getD s (at + 2) 0)) s)) ≡ Whole e
-    place k q e p =
-        subst (λ m. parse Table (below T) (take (at + 2 + numberOf 2 (drop at s) - (at + m)) (drop (at + m) s)) ≡ Whole e) (sym q)
-        (ap (parse Table (below T)) (sym (body-part (instr T n) s at x g k)) ∙ p)
-
-    starts-at : (k : ℕ) → exprStart (getD s (at + 2) 0) ≡ 2 + k → k ≤ length body → at + exprStart (getD s (at + 2) 0) ≤ at + 2 + numberOf 2 (drop at s)
-    starts-at k q h = omega (arith, long)
+    placed : (k : ℕ) → exprStart (getD s (at + 2) 0) ≡ 2 + k → (e : List Token) → parse Table (below T) (drop k body) ≡ Whole e → parse Table (below T) (exprPart s at) ≡ Whole e
+    placed k q e p = ap (λ m. parse Table (below T) (restOf s at m)) q ∙ ap (parse Table (below T)) (sym (body-part (instr T n) s at x g k)) ∙ p
 
     there : at + 2 < length s
     there = omega (arith, inside, long, body-some (instr T n) s at x g)
+
+    test : (k : Kind) (e : List Token) → (2 ≤ getD s (at + 2) 0) × (getD s (at + 2) 0 ≤ 3) → kindOf (getD s (at + 2) 0) ≡ k → 1 ≤ length body
+        → parse Table (below T) (drop 1 body) ≡ Whole e → recordOf (instr T n) (drop at s) ≡ Good (Test k e) → Held T n s at
+    test k e c d h p g =
+        let q : exprStart (getD s (at + 2) 0) ≡ 3 = rw (ne-eqb (getD s (at + 2) 0) 1 (λ z. omega (arith, c .0)), ne-eqb (getD s (at + 2) 0) 4 (λ z. omega (arith, c .1))) in
+        record {
+          instruction = Test k e;
+          is = g;
+          whole = inside;
+          kind-there = there;
+          starts = omega (arith, long);
+          parsed = placed 1 q e p;
+          assigns = λ z. absurd (omega (arith, c .0));
+          jumps = λ z. absurd (omega (arith, c .1));
+          tests = λ y z. ap {B = Instr} (λ k. Test k e) (sym d);
+          kinds = λ y z. c;
+        }
 
     held : (x : Instr) → recordOf (instr T n) (drop at s) ≡ Good x → Says T n body x → Held T n s at
     held x g (says-assign e k h m p) =
@@ -72,8 +83,8 @@ module _ (T n : ℕ) (s : List ℕ) (at : ℕ) where
           is = g;
           whole = inside;
           kind-there = there;
-          starts = starts-at 2 q h;
-          parsed = place 2 q e p;
+          starts = omega (arith, long);
+          parsed = placed 2 q e p;
           assigns = λ z. (ap {B = Instr} (λ w. Assign w e) v, subst (λ w. w < T) v m, omega (arith, h, long, inside));
           jumps = λ z. absurd (omega arith);
           tests = λ y z. absurd (y c);
@@ -88,8 +99,8 @@ module _ (T n : ℕ) (s : List ℕ) (at : ℕ) where
           is = g;
           whole = inside;
           kind-there = there;
-          starts = starts-at 3 q h;
-          parsed = place 3 q e p;
+          starts = omega (arith, long);
+          parsed = placed 3 q e p;
           assigns = λ z. absurd (omega arith);
           jumps = λ z. (ap {B = Instr} (λ w. IfThenGoto w e) v, subst (λ w. w ≤ n) v m, omega (arith, h, long, inside));
           tests = λ y z. absurd (z c);
@@ -97,34 +108,10 @@ module _ (T n : ℕ) (s : List ℕ) (at : ℕ) where
         }
     held x g (says-assume e k h p) =
         let c : getD s (at + 2) 0 ≡ 2 = sym kind ∙ k in
-        let q : exprStart (getD s (at + 2) 0) ≡ 3 = rw (ne-eqb (getD s (at + 2) 0) 1 (λ z. omega arith), ne-eqb (getD s (at + 2) 0) 4 (λ z. omega arith)) in
-        record {
-          instruction = Test Assume e;
-          is = g;
-          whole = inside;
-          kind-there = there;
-          starts = starts-at 1 q h;
-          parsed = place 1 q e p;
-          assigns = λ z. absurd (omega arith);
-          jumps = λ z. absurd (omega arith);
-          tests = λ y z. rw (ne-eqb (getD s (at + 2) 0) 3 (λ w. omega arith));
-          kinds = λ y z. (omega arith, omega arith);
-        }
+        test Assume e (omega arith, omega arith) (rw (ne-eqb (getD s (at + 2) 0) 3 (λ z. omega arith))) h p g
     held x g (says-assert e k h p) =
         let c : getD s (at + 2) 0 ≡ 3 = sym kind ∙ k in
-        let q : exprStart (getD s (at + 2) 0) ≡ 3 = rw (ne-eqb (getD s (at + 2) 0) 1 (λ z. omega arith), ne-eqb (getD s (at + 2) 0) 4 (λ z. omega arith)) in
-        record {
-          instruction = Test Assert e;
-          is = g;
-          whole = inside;
-          kind-there = there;
-          starts = starts-at 1 q h;
-          parsed = place 1 q e p;
-          assigns = λ z. absurd (omega arith);
-          jumps = λ z. absurd (omega arith);
-          tests = λ y z. rw (eq-eqb (getD s (at + 2) 0) 3 c);
-          kinds = λ y z. (omega arith, omega arith);
-        }
+        test Assert e (omega arith, omega arith) (rw (eq-eqb (getD s (at + 2) 0) 3 c)) h p g
 
   pub held-at : isGood (recordOf (instr T n) (drop at s)) ≡ true → Held T n s at
   held-at h = go (recordOf (instr T n) (drop at s)) refl h

@@ -6,7 +6,7 @@ use native.Mathlib.Numerals.{add-one}
 use mathlib.Core.Path.{_≡_, refl, sym, ap, ap₂, _∙_, subst}
 use mathlib.Core.Bool.{Bool, true, false, cond}
 use mathlib.Core.List.{List}
-use lib.ListN.{length, take, drop, getD, set}
+use lib.ListN.{length, drop, getD, set}
 use lib.Dec.{leb, ltb}
 use borrow.Author.Tests.{eq-eqb, ne-eqb}
 use Rattle.expr.specs.declared.File.the-variants.{Table}
@@ -22,7 +22,7 @@ use Rattle.table.specs.declared.steps.Move.the-variants as M
 use Rattle.table.specs.Table.{Instr, Assign, Test, IfThenGoto, instr}
 use Rattle.table.specs.Run.{placeIn, Next, Halt, Go, jump, step}
 use Rattle.file.specs.Shown.{kindOf}
-use Rattle.table.specs.Shown.{moveOf, Moved, exprStart, exprOf, valueIn, stepBody}
+use Rattle.table.specs.Shown.{moveOf, Moved, exprPart, exprOf, valueIn, stepBody}
 use Rattle.table.proofs.Held.{Held}
 
 -- a place is small
@@ -36,15 +36,12 @@ pub place-is : (n i r : ℕ) → r * (n + 1) + i ≡ placeIn n r i
 place-is n i r = ap (λ m. r * m + i) (add-one n)
 
 module _ {T n : ℕ} {s : List ℕ} {at : ℕ} (h : Held T n s at) where
-  -- the part that the code cuts out, with its own numbers for the length and the start
-  pub expr-part : (len k : ℕ) → len ≡ numberOf 2 (drop at s) → k ≡ exprStart (getD s (at + 2) 0)
-      → parse Table (below T) (take (at + 2 + len - (at + k)) (drop (at + k) s)) ≡ Whole (exprOf (h .instruction))
-  expr-part len k p q = ap₂ (λ l k. parse Table (below T) (take (at + 2 + l - (at + k)) (drop (at + k) s))) p q ∙ h .parsed
+  pub expr-whole : {e : List ℕ} → e ≡ exprPart s at → parse Table (below T) e ≡ Whole (exprOf (h .instruction))
+  expr-whole q = ap (parse Table (below T)) q ∙ h .parsed
 
-  pub expr-value : (ρ : Env) (len k : ℕ) → len ≡ numberOf 2 (drop at s) → k ≡ exprStart (getD s (at + 2) 0)
-      → valueOf ρ (parse Table (below T) (take (at + 2 + len - (at + k)) (drop (at + k) s))) ≡ valueIn (recordOf (instr T n) (drop at s)) ρ
+  pub expr-value : (ρ : Env) {e : List ℕ} → e ≡ exprPart s at → valueOf ρ (parse Table (below T) e) ≡ valueIn (recordOf (instr T n) (drop at s)) ρ
   unfolding value
-  expr-value ρ len k p q = ap (valueOf ρ) (expr-part len k p q) ∙ sym (ap (λ b. valueIn b ρ) (h .is))
+  expr-value ρ q = ap (valueOf ρ) (expr-whole q) ∙ sym (ap (λ b. valueIn b ρ) (h .is))
 
 module _ {n : ℕ} {s : List ℕ} {at : ℕ} (vals : List ℕ) (h : Held (length vals) n s at) (K i r w : ℕ) (v : w ≡ valueIn (recordOf (instr (length vals) n) (drop at s)) (envOf vals)) where
   abbrev ρ : Env

@@ -1,15 +1,16 @@
 -- What the code's values mean: its answers as functions of the definitions.
-use Prim.Native.Nat.{ℕ}
+use Prim.Native.Nat.{ℕ, _+_}
 use mathlib.Core.Path.{_≡_}
 use mathlib.Core.Bool.{cond}
 use mathlib.Core.List.{List}
+use lib.ListN.{getD}
 use lib.Dec.{eqb}
 use Rattle.expr.specs.Token.{Token}
 use Rattle.expr.specs.Eval.{Env, envOf, value}
 use Rattle.file.specs.Outcome.{Lost, verdict, placeOf}
 use Rattle.file.specs.File.{Body, Good, Bad}
 use Rattle.file.specs.Shown as File
-use Rattle.file.specs.Shown.{fileCount, ReadFile}
+use Rattle.file.specs.Shown.{restOf, fileCount, ReadFile}
 use Rattle.file.specs.declared.Reading.{Reading}
 use Rattle.table.specs.declared.steps.Move.{Move}
 use Rattle.table.specs.declared.steps.Move.the-variants as M
@@ -47,6 +48,10 @@ Moved (Go i r ρ) m vals = (m ≡ M.Go i r) × (envOf vals ≡ ρ)
 -- where the expression begins in a record, by its kind's code
 abbrev pub exprStart : (code : ℕ) → ℕ
 exprStart k = cond (eqb k 1) 4 (cond (eqb k 4) 5 3)
+
+-- the bytes of the expression in the record at an offset
+abbrev pub exprPart : (table : List ℕ) (at : ℕ) → List ℕ
+exprPart table at = restOf table at (exprStart (getD table (at + 2) 0))
 
 abbrev pub exprOf : Instr → List Token
 exprOf (Assign s e) = e

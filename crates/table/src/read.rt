@@ -5,13 +5,14 @@ use expr::accept::Checked;
 use expr::number;
 use file::Reading;
 ghost use mathlib.Core.Path.{_≡_};
-ghost use Prim.Native.Nat.{_≤_, _<_};
-ghost use lib.ListN.{length, drop};
+ghost use Prim.Native.Nat.{_+_, _≤_, _<_};
+ghost use lib.ListN.{length, drop, getD};
 ghost use Rattle.expr.specs.declared.File.the-variants.{Table};
+ghost use Rattle.expr.specs.Number.{numberOf};
 ghost use Rattle.expr.specs.Expr.{below, parse};
 ghost use Rattle.file.specs.Shown.{replyOf, exprReply};
 ghost use Rattle.table.specs.Table.{instr};
-ghost use Rattle.table.specs.Shown.{exprStart, ReadRecords, ReadTable};
+ghost use Rattle.table.specs.Shown.{exprStart, exprPart, ReadRecords, ReadTable};
 
 // The expression from a place of a record on: 0, or 7.
 fn expr_reply(body: &[u8], from: usize, inputs: usize) -> u8
@@ -120,7 +121,7 @@ pub fn read_table(table: &[u8], offsets: &mut [u16]) -> Reading
 }
 
 // Where the expression begins in a record of a kind.
-pub fn expr_start(kind: u8) -> usize
+fn expr_start(kind: u8) -> usize
     ensures { λ r. ⌜ r ≡ exprStart kind ⌝ }
 {
     if kind == 1 {
@@ -130,4 +131,13 @@ pub fn expr_start(kind: u8) -> usize
         return 5;
     }
     3
+}
+
+// The expression of the record at a place.
+pub fn expr_at(table: &[u8], at: usize) -> &[u8]
+    requires { ⌜ (at + (2 + numberOf 2 (drop at (now table))) ≤ length (now table)) × (exprStart (getD (now table) (at + 2) 0) ≤ 2 + numberOf 2 (drop at (now table))) ⌝ }
+    ensures { λ r. ⌜ now r ≡ exprPart (now (table .entry)) at ⌝ }
+{
+    let kind = table[at + 2];
+    file::rest_of(table, at, expr_start(kind))
 }

@@ -65,10 +65,7 @@ fn value_at(table: &[u8], at: usize, n: usize, vals: &[u32]) -> u32
     requires { ⌜ (at < 65536) × (isGood (recordOf (instr (length (now vals)) n) (drop at (now table))) ≡ true) ⌝ }
     ensures { λ w. ⌜ w ≡ valueIn (recordOf (instr (length (now (vals .entry))) n) (drop at (now (table .entry)))) (envOf (now (vals .entry))) ⌝ }
 {
-    let end = at + 2 + number::two_at(table, at);
-    let kind = table[at + 2];
-    let from = at + read::expr_start(kind);
-    eval::eval_expr(&table[from..end], File::Table, vals)
+    eval::eval_expr(read::expr_at(table, at), File::Table, vals)
 }
 
 // The instruction i, whose record stands at a place of the table.

@@ -12,19 +12,19 @@ use Rattle.expr.specs.Token.{Token}
 use Rattle.expr.specs.Expr.{Whole, parse}
 use Rattle.file.specs.Outcome.{Kind, Assume, Assert}
 use Rattle.file.specs.File.{Body, Good, Bad, frame, recordOf}
-use Rattle.file.specs.Shown.{isGood, kindOf}
+use Rattle.file.specs.Shown.{isGood, kindOf, restOf}
 use Rattle.file.specs.RecordLaws.{read-body, body-length, body-some, body-inside, body-part, body-kind, body-number}
 use Rattle.trace.specs.Trace.{Stmt, Assign, Test, Seen, stmt}
 use Rattle.trace.specs.TraceLaws.{Says, says-assign, says-assume, says-assert, says}
-use Rattle.trace.specs.Shown.{exprStart, exprOf}
+use Rattle.trace.specs.Shown.{exprStart, exprPart, exprOf}
 
 pub record Held (top : ℕ) (σ : Seen) (s : List ℕ) (at : ℕ) : Type 0 where
   pub statement : Stmt
   pub is : recordOf (stmt top σ) (drop at s) ≡ Good statement
-  pub whole : at + 2 + numberOf 2 (drop at s) ≤ length s
+  pub whole : at + (2 + numberOf 2 (drop at s)) ≤ length s
   pub kind-there : at + 2 < length s
-  pub starts : at + exprStart (getD s (at + 2) 0) ≤ at + 2 + numberOf 2 (drop at s)
-  pub parsed : parse Trace (σ .readable) (take (at + 2 + numberOf 2 (drop at s) - (at + exprStart (getD s (at + 2) 0))) (drop (at + exprStart (getD s (at + 2) 0)) s)) ≡ Whole (exprOf statement)
+  pub starts : exprStart (getD s (at + 2) 0) ≤ 2 + numberOf 2 (drop at s)
+  pub parsed : parse Trace (σ .readable) (exprPart s at) ≡ Whole (exprOf statement)
   pub assigns : getD s (at + 2) 0 ≡ 1
       → (statement ≡ Assign (numberOf 2 (drop (at + 3) s)) (numberOf 2 (drop (at + 5) s)) (exprOf statement)) × (numberOf 2 (drop (at + 5) s) < top) × (at + 7 ≤ length s)
   pub tests : (getD s (at + 2) 0 ≡ 1 → ⊥) → (statement ≡ Test (kindOf (getD s (at + 2) 0)) (numberOf 2 (drop (at + 3) s)) (exprOf statement)) × (at + 5 ≤ length s)
@@ -37,7 +37,7 @@ module _ (top : ℕ) (σ : Seen) (s : List ℕ) (at : ℕ) where
     long : length body ≡ numberOf 2 (drop at s)
     long = body-length (stmt top σ) s at x g
 
-    inside : at + 2 + numberOf 2 (drop at s) ≤ length s
+    inside : at + (2 + numberOf 2 (drop at s)) ≤ length s
     inside = body-inside (stmt top σ) s at x g
 
     kind : getD body 0 0 ≡ getD s (at + 2) 0
@@ -48,10 +48,8 @@ module _ (top : ℕ) (σ : Seen) (s : List ℕ) (at : ℕ) where
 
     -- the expression from k on, where the kind's expression begins at 2 + k
     placed : (k : ℕ) → exprStart (getD s (at + 2) 0) ≡ 2 + k → (e : List Token) → parse Trace (σ .readable) (drop k body) ≡ Whole e
-        → parse Trace (σ .readable) (take (at + 2 + numberOf 2 (drop at s) - (at + exprStart (getD s (at + 2) 0))) (drop (at + exprStart (getD s (at + 2) 0)) s)) ≡ Whole e
-    placed k q e p =
-        subst (λ m. parse Trace (σ .readable) (take (at + 2 + numberOf 2 (drop at s) - (at + m)) (drop (at + m) s)) ≡ Whole e) (sym q)
-        (ap (parse Trace (σ .readable)) (sym (body-part (stmt top σ) s at x g k)) ∙ p)
+        → parse Trace (σ .readable) (exprPart s at) ≡ Whole e
+    placed k q e p = ap (λ m. parse Trace (σ .readable) (restOf s at m)) q ∙ ap (parse Trace (σ .readable)) (sym (body-part (stmt top σ) s at x g k)) ∙ p
 
     test : (k : Kind) (e : List Token) → (getD s (at + 2) 0 ≡ 1 → ⊥) → kindOf (getD s (at + 2) 0) ≡ k → 3 ≤ length body → parse Trace (σ .readable) (drop 3 body) ≡ Whole e
         → recordOf (stmt top σ) (drop at s) ≡ Good (Test k (numberOf 2 (drop 1 body)) e) → Held top σ s at

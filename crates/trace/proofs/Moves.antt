@@ -3,7 +3,7 @@ use Prim.Native.Nat.{ℕ, _+_, _-_}
 use native.Mathlib.Omega.{arith}
 use mathlib.Core.Path.{_≡_, refl, sym, ap, ap₂, _∙_, subst}
 use mathlib.Core.List.{List}
-use lib.ListN.{length, take, drop, getD, set}
+use lib.ListN.{length, drop, getD, set}
 use borrow.Author.Tests.{eq-eqb, ne-eqb}
 use Rattle.expr.specs.declared.File.the-variants.{Trace}
 use Rattle.expr.specs.Number.{numberOf}
@@ -16,21 +16,17 @@ use Rattle.trace.specs.declared.steps.Move.{Move}
 use Rattle.trace.specs.declared.steps.Move.the-variants as M
 use Rattle.trace.specs.Trace.{Stmt, Assign, Test}
 use Rattle.file.specs.Shown.{kindOf}
-use Rattle.trace.specs.Shown.{loose, held, exprStart, exprOf, valueIn, step, stepBody, Moved, endOf}
+use Rattle.trace.specs.Shown.{loose, held, exprPart, exprOf, valueIn, step, stepBody, Moved, endOf}
 use Rattle.trace.proofs.Held.{Held}
 
 module _ {s : List ℕ} {at : ℕ} (h : Held 4160 loose s at) where
-  -- the part that the code cuts out, with its own numbers for the symbols, the length and the start
-  pub expr-part : (T len k : ℕ) → T ≡ 4160 → len ≡ numberOf 2 (drop at s) → k ≡ exprStart (getD s (at + 2) 0)
-      → parse Trace (below T) (take (at + 2 + len - (at + k)) (drop (at + k) s)) ≡ Whole (exprOf (h .statement))
-  expr-part T len k t p q =
-      ap (λ T. parse Trace (below T) (take (at + 2 + len - (at + k)) (drop (at + k) s))) t
-      ∙ ap₂ (λ l k. parse Trace (below 4160) (take (at + 2 + l - (at + k)) (drop (at + k) s))) p q ∙ h .parsed
+  -- with the code's own number of symbols
+  pub expr-whole : (T : ℕ) → T ≡ 4160 → {e : List ℕ} → e ≡ exprPart s at → parse Trace (below T) e ≡ Whole (exprOf (h .statement))
+  expr-whole T t q = ap₂ (λ T e. parse Trace (below T) e) t q ∙ h .parsed
 
-  pub expr-value : (ρ : Env) (T len k : ℕ) → T ≡ 4160 → len ≡ numberOf 2 (drop at s) → k ≡ exprStart (getD s (at + 2) 0)
-      → valueOf ρ (parse Trace (below T) (take (at + 2 + len - (at + k)) (drop (at + k) s))) ≡ valueIn (held (drop at s)) ρ
+  pub expr-value : (ρ : Env) (T : ℕ) → T ≡ 4160 → {e : List ℕ} → e ≡ exprPart s at → valueOf ρ (parse Trace (below T) e) ≡ valueIn (held (drop at s)) ρ
   unfolding value
-  expr-value ρ T len k t p q = ap (valueOf ρ) (expr-part T len k t p q) ∙ sym (ap (λ b. valueIn b ρ) (h .is))
+  expr-value ρ T t q = ap (valueOf ρ) (expr-whole T t q) ∙ sym (ap (λ b. valueIn b ρ) (h .is))
 
 module _ {s : List ℕ} {at : ℕ} (h : Held 4160 loose s at) (cells : List ℕ) (w : ℕ) (v : w ≡ valueIn (held (drop at s)) (envOf cells)) where
   abbrev ρ : Env

@@ -3,7 +3,7 @@ use Prim.Native.Nat.{ℕ, suc, _+_}
 use mathlib.Core.Path.{_≡_}
 use mathlib.Core.Bool.{Bool, true, cond}
 use mathlib.Core.List.{List}
-use lib.ListN.{set}
+use lib.ListN.{getD, set}
 use lib.Dec.{eqb}
 use Rattle.expr.specs.Token.{Token}
 use Rattle.expr.specs.Expr.{below, readable}
@@ -12,7 +12,7 @@ use Rattle.expr.specs.Word.{truthy}
 use Rattle.file.specs.Outcome.{Outcome, Lost, Failed, verdict, placeOf}
 use Rattle.file.specs.File.{Body, Good, Bad, recordOf}
 use Rattle.file.specs.Shown as File
-use Rattle.file.specs.Shown.{fileCount, ReadFile}
+use Rattle.file.specs.Shown.{restOf, fileCount, ReadFile}
 use Rattle.file.specs.declared.Reading.{Reading}
 use Rattle.trace.specs.declared.steps.Move.{Move}
 use Rattle.trace.specs.declared.steps.Move.the-variants as M
@@ -64,6 +64,10 @@ held bs = recordOf (stmt 4160 loose) bs
 -- where the expression begins in a record, by its kind's code
 abbrev pub exprStart : (code : ℕ) → ℕ
 exprStart k = cond (eqb k 1) 7 5
+
+-- the bytes of the expression in the record at an offset
+abbrev pub exprPart : (trace : List ℕ) (at : ℕ) → List ℕ
+exprPart trace at = restOf trace at (exprStart (getD trace (at + 2) 0))
 
 abbrev pub exprOf : Stmt → List Token
 exprOf (Assign p x e) = e

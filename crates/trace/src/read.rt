@@ -7,13 +7,14 @@ use file::Reading;
 ghost use mathlib.Core.Path.{_≡_};
 ghost use mathlib.Core.Bool.{true};
 ghost use Prim.Native.Nat.{_+_, _≤_, _<_};
-ghost use lib.ListN.{length, drop};
+ghost use lib.ListN.{length, drop, getD};
 ghost use Rattle.expr.specs.declared.File.the-variants.{Trace};
+ghost use Rattle.expr.specs.Number.{numberOf};
 ghost use Rattle.expr.specs.Expr.{readable, parse};
 ghost use Rattle.file.specs.File.{recordOf};
 ghost use Rattle.file.specs.Shown.{replyOf, isGood, exprReply};
 ghost use Rattle.trace.specs.Trace.{stmt};
-ghost use Rattle.trace.specs.Shown.{exprStart, seen, leastAfter, markedBy, ReadRecords, ReadTrace};
+ghost use Rattle.trace.specs.Shown.{exprStart, exprPart, seen, leastAfter, markedBy, ReadRecords, ReadTrace};
 
 // The expression from a place of a record on: 0, or 7.
 fn expr_reply(body: &[u8], from: usize, inputs: usize, assigned: &[bool]) -> u8
@@ -138,11 +139,20 @@ pub fn read_trace(trace: &[u8], offsets: &mut [u16]) -> Reading
 }
 
 // Where the expression begins in a record of a kind.
-pub fn expr_start(kind: u8) -> usize
+fn expr_start(kind: u8) -> usize
     ensures { λ r. ⌜ r ≡ exprStart kind ⌝ }
 {
     if kind == 1 {
         return 7;
     }
     5
+}
+
+// The expression of the record at a place.
+pub fn expr_at(trace: &[u8], at: usize) -> &[u8]
+    requires { ⌜ (at + (2 + numberOf 2 (drop at (now trace))) ≤ length (now trace)) × (exprStart (getD (now trace) (at + 2) 0) ≤ 2 + numberOf 2 (drop at (now trace))) ⌝ }
+    ensures { λ r. ⌜ now r ≡ exprPart (now (trace .entry)) at ⌝ }
+{
+    let kind = trace[at + 2];
+    file::rest_of(trace, at, expr_start(kind))
 }

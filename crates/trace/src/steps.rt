@@ -48,10 +48,7 @@ fn value_at(trace: &[u8], at: usize, cells: &[u32]) -> u32
     requires { ⌜ (at < 65536) × (length (now cells) ≡ 4160) × (isGood (held (drop at (now trace))) ≡ true) ⌝ }
     ensures { λ w. ⌜ w ≡ valueIn (held (drop at (now (trace .entry)))) (envOf (now (cells .entry))) ⌝ }
 {
-    let end = at + 2 + number::two_at(trace, at);
-    let kind = trace[at + 2];
-    let from = at + read::expr_start(kind);
-    eval::eval_expr(&trace[from..end], File::Trace, cells)
+    eval::eval_expr(read::expr_at(trace, at), File::Trace, cells)
 }
 
 // The statement whose record stands at a place of the trace.
