@@ -6,11 +6,12 @@ use native.Mathlib.Numerals.{add-one}
 use mathlib.Core.Path.{_≡_, refl, sym, ap, ap₂, _∙_}
 use mathlib.Core.Bool.{Bool, true, false, cond}
 use mathlib.Core.List.{List, [], _∷_, _++_}
-use lib.ListN.{length, take, drop, getD, length-append, drop-of-length-le}
+use lib.ListN.{length, drop, getD, length-append, drop-of-length-le}
 use lib.Seq.{drop-drop, drop-cons}
 use Rattle.expr.specs.Lists.{All}
-use Rattle.expr.specs.Number.{Byte, numberOf}
+use Rattle.expr.specs.Number.{Byte}
 use Rattle.file.specs.File.{Body, Good, recordBytes, recordsBytes}
+use Rattle.file.specs.Shown.{restOf}
 use Rattle.trace.specs.Trace.{Stmt, stmtBytes}
 use Rattle.trace.specs.Shown.{loose, held}
 use Rattle.trace.proofs.Held.{Held}
@@ -26,9 +27,8 @@ module _ {s : List ℕ} {at : ℕ} (h : Held 4160 loose s at) (keep : Bool) wher
   bytes-are : (b : Bool) → keep ≡ b → keptBytes keep (held (drop at s)) ≡ cond b (recordBytes stmtBytes (h .statement)) []
   bytes-are b e = ap₂ keptBytes e (h .is)
 
-  module _ (o : All Byte s) (e : keep ≡ true) (len : ℕ) (l : len ≡ numberOf 2 (drop at s)) where
-    pub part-is : take (at + 2 + len - at) (drop at s) ≡ keptBytes keep (held (drop at s))
-    part-is = record-part s at o (h .statement) (h .is) len l ∙ sym (bytes-are true e)
+  pub part-is : All Byte s → keep ≡ true → {e : List ℕ} → e ≡ restOf s at 0 → e ≡ keptBytes keep (held (drop at s))
+  part-is o k q = record-part s at o (h .statement) (h .is) q ∙ sym (bytes-are true k)
 
   pub none-written : (out : List ℕ) (to : ℕ) → keep ≡ false → Wrote out to (keptBytes keep (held (drop at s))) out to
   none-written out to e = wrote-as (sym (bytes-are false e)) (record { buffer = sym (splice-nil to out); next = sym (add-zero to) })

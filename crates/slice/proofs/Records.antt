@@ -1,7 +1,7 @@
 -- The record at an offset: whether its statement is kept, what it reads, whether it is an Assert, and its bytes.
 use Prim.Native.Nat.{ℕ, _+_, _-_}
 use native.Mathlib.Omega.{arith}
-use mathlib.Core.Path.{_≡_, refl, sym, ap, _∙_}
+use mathlib.Core.Path.{_≡_, refl, sym, ap, ap₂, _∙_}
 use mathlib.Core.Bool.{Bool, true, false, cond, _||_}
 use mathlib.Core.List.{List}
 use lib.ListN.{length, take, drop, getD, set, length-append}
@@ -17,14 +17,14 @@ use Rattle.expr.specs.Eval.{reads}
 use Rattle.expr.specs.Shown.{tokensOf}
 use Rattle.file.specs.Outcome.{Assume, Assert, Bound}
 use Rattle.file.specs.File.{Body, Good, Bad, frame, recordBytes}
-use Rattle.file.specs.Shown.{kindOf}
+use Rattle.file.specs.Shown.{kindOf, restOf}
 use Rattle.file.specs.RecordLaws.{read-body, body-length}
 use Rattle.file.specs.EncodeLaws.{record-same}
 use Rattle.trace.specs.Trace.{Stmt, Assign, Test, see, stmt, stmtBytes}
 use Rattle.trace.specs.EncodeLaws.{stmt-same}
-use Rattle.trace.specs.Shown.{loose, held, exprStart, exprOf}
+use Rattle.trace.specs.Shown.{loose, held, exprPart, exprOf}
 use Rattle.trace.proofs.Held.{Held}
-use Rattle.trace.proofs.Moves.{expr-part}
+use Rattle.trace.proofs.Moves.{expr-whole}
 use Rattle.slice.specs.declared.back.Kept.{Kept}
 use Rattle.slice.specs.Slice.{isAssert}
 use Rattle.slice.specs.Shown.{inSet, readsIn, keepIn, assertsIn, Stepped}
@@ -71,13 +71,13 @@ module _ {s : List ℕ} {at : ℕ} (h : Held 4160 loose s at) where
 
   -- ---- what it reads
 
-  -- of the part that the code cuts out, with its own numbers for the symbols, the length and the start
-  pub reads-marked : (T len k : ℕ) → T ≡ 4160 → len ≡ numberOf 2 (drop at s) → k ≡ exprStart (getD s (at + 2) 0) → (needed needed′ : List Bool)
-      → ((x : ℕ) → inSet needed′ x ≡ (reads x (tokensOf (parse Trace (below T) (take (at + 2 + len - (at + k)) (drop (at + k) s)))) || inSet needed x))
+  -- with the code's own number of symbols
+  pub reads-marked : (T : ℕ) → T ≡ 4160 → {e : List ℕ} → e ≡ exprPart s at → (needed needed′ : List Bool)
+      → ((x : ℕ) → inSet needed′ x ≡ (reads x (tokensOf (parse Trace (below T) e)) || inSet needed x))
       → (x : ℕ) → inSet needed′ x ≡ (readsIn x (held (drop at s)) || inSet needed x)
-  reads-marked T len k t p q needed needed′ m x =
+  reads-marked T t q needed needed′ m x =
       m x
-      ∙ ap (λ p. reads x (tokensOf p) || inSet needed x) (expr-part h T len k t p q)
+      ∙ ap (λ p. reads x (tokensOf p) || inSet needed x) (expr-whole h T t q)
       ∙ sym (ap (λ b. readsIn x b || inSet needed x) (h .is))
 
   -- ---- one step back
@@ -111,11 +111,10 @@ module _ (s : List ℕ) (at : ℕ) (o : All Byte s) (t : Stmt) (g : held (drop a
   pub record-length : length (recordBytes stmtBytes t) ≡ 2 + numberOf 2 (drop at s)
   record-length = omega (arith, length-append (bytesOf 2 (length (stmtBytes t))) (stmtBytes t), bytesOf-length 2 (length (stmtBytes t)), statement-length)
 
-  -- of the part that the code cuts out, with its own number for the length
-  pub record-part : (len : ℕ) → len ≡ numberOf 2 (drop at s) → take (at + 2 + len - at) (drop at s) ≡ recordBytes stmtBytes t
-  record-part len l =
-      let n : at + 2 + len - at ≡ length (recordBytes stmtBytes t) = omega (arith, record-length) in
+  pub record-part : {e : List ℕ} → e ≡ restOf s at 0 → e ≡ recordBytes stmtBytes t
+  record-part q =
       let rest = drop (2 + frame (drop at s)) (drop at s) in
-      ap (λ m. take m (drop at s)) n
+      q
+      ∙ ap₂ (λ m a. take m (drop a s)) (let n : 2 + numberOf 2 (drop at s) - 0 ≡ length (recordBytes stmtBytes t) = omega (arith, record-length) in n) (let z : at + 0 ≡ at = omega arith in z)
       ∙ ap (take (length (recordBytes stmtBytes t))) (sym (record-same stmtBytes (stmt 4160) see (stmt-same 64) loose (drop at s) t (all-drop Byte at s o) g))
       ∙ take-append-seam (recordBytes stmtBytes t) rest

@@ -42,10 +42,7 @@ fn mark_record(trace: &[u8], at: usize, needed: &mut [bool])
     requires { ⌜ (at < 65536) × (length (now needed) ≡ 4160) × (isGood (held (drop at (now trace))) ≡ true) ⌝ }
     ensures { λ _. ⌜ ((x : ℕ) → inSet (now (needed .exit)) x ≡ (readsIn x (held (drop at (now (trace .entry)))) || inSet (now (needed .entry)) x)) ⌝ }
 {
-    let end = at + 2 + number::two_at(trace, at);
-    let kind = trace[at + 2];
-    let from = at + read::expr_start(kind);
-    reads::mark_reads(&trace[from..end], needed);
+    reads::mark_reads(read::expr_at(trace, at), needed);
 }
 
 // Whether an Assert is among a statement of this kind and those behind it.

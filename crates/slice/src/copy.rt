@@ -1,5 +1,4 @@
 // The kept records, byte for byte.
-use expr::number;
 ghost use mathlib.Core.Path.{_≡_};
 ghost use mathlib.Core.Bool.{true};
 ghost use Prim.Native.Nat.{_+_, _≤_, _<_};
@@ -17,8 +16,7 @@ fn copy_record(trace: &[u8], at: usize, keep: bool, out: &mut [u8], to: usize) -
     ensures { λ r. ⌜ Wrote (now (out .entry)) to (keptBytes keep (held (drop at (now (trace .entry))))) (now (out .exit)) r ⌝ }
 {
     if keep {
-        let end = at + 2 + number::two_at(trace, at);
-        return write::put_part(&trace[at..end], out, to);
+        return write::put_part(file::rest_of(trace, at, 0), out, to);
     }
     to
 }
