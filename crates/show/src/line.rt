@@ -1,6 +1,7 @@
 // The lines of a trace.
 use super::word;
 use expr::number;
+use trace::read;
 ghost use mathlib.Core.Path.{_≡_};
 ghost use mathlib.Core.Bool.{true};
 ghost use Prim.Native.Nat.{_+_, _*_, _≤_, _<_};
@@ -19,7 +20,7 @@ fn put_line(trace: &[u8], at: usize, out: &mut [u8], to: usize) -> usize
     requires { ⌜ (at < 65536) × (isGood (held (drop at (now trace))) ≡ true) × (to + 6 * (2 + numberOf 2 (drop at (now trace))) ≤ length (now out)) ⌝ }
     ensures { λ r. ⌜ Wrote (now (out .entry)) to (lineIn (held (drop at (now (trace .entry))))) (now (out .exit)) r × (r ≤ to + 6 * (2 + numberOf 2 (drop at (now (trace .entry))))) ⌝ }
 {
-    let end = at + 2 + number::two_at(trace, at);
+    let e = read::expr_at(trace, at);
     let kind = trace[at + 2];
     let place = number::two_at(trace, at + 3);
     let a = word::put_decimal(place as u32, out, to);
@@ -27,11 +28,11 @@ fn put_line(trace: &[u8], at: usize, out: &mut [u8], to: usize) -> usize
         let symbol = number::two_at(trace, at + 5);
         let b = write::put_part(b" assign s", out, a);
         let c = word::put_decimal(symbol as u32, out, b);
-        let d = word::put_tokens(&trace[at + 7..end], out, c);
+        let d = word::put_tokens(e, out, c);
         return write::put_part(b"\n", out, d);
     }
     let b = word::put_kind(kind, out, a);
-    let c = word::put_tokens(&trace[at + 5..end], out, b);
+    let c = word::put_tokens(e, out, b);
     write::put_part(b"\n", out, c)
 }
 

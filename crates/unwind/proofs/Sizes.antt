@@ -7,7 +7,7 @@ use native.Mathlib.Numerals.{add-one}
 use mathlib.Core.Path.{_≡_, refl, sym, ap, ap₂, _∙_}
 use mathlib.Core.Bool.{Bool, true, false, cond, _&&_}
 use mathlib.Core.List.{List, _∷_}
-use lib.ListN.{length, take, drop, getD, length-drop, drop-of-length-le}
+use lib.ListN.{length, drop, getD, length-drop, drop-of-length-le}
 use lib.Seq.{length-take-le, drop-drop}
 use lib.Dec.{eqb, leb}
 use borrow.Author.Tests.{eqb-true, eqb-false, le-leb, lt-leb}
@@ -19,9 +19,9 @@ use Rattle.expr.specs.Shown.{isWhole}
 use Rattle.file.specs.File.{Body, recordOf}
 use Rattle.file.specs.Shown.{isGood, kindOf, listed}
 use Rattle.table.specs.Table.{Instr, Assign, Test, IfThenGoto, instr, readTable}
-use Rattle.table.specs.Shown.{exprStart, exprOf, Ready}
+use Rattle.table.specs.Shown.{exprStart, exprPart, exprOf, Ready}
 use Rattle.table.proofs.Held.{Held}
-use Rattle.table.proofs.Moves.{expr-part}
+use Rattle.table.proofs.Moves.{expr-whole}
 use Rattle.unwind.specs.Size.{exprSize, instrSize, copySize}
 use Rattle.expr.specs.Shown.{tokensOf}
 use Rattle.unwind.specs.Shown.{known, sizeIn}
@@ -39,18 +39,15 @@ module _ {n : ℕ} {s : List ℕ} {at : ℕ} (h : Held 64 n s at) where
     pub is : size ≡ exprSize (exprOf (h .instruction))
     pub little : size ≤ 131070
 
-  -- the part that the code cuts out, with its own numbers for the length and the start
-  module _ (o : length s < 65536) (len k : ℕ) (p : len ≡ numberOf 2 (drop at s)) (q : k ≡ exprStart (getD s (at + 2) 0)) where
-    abbrev part : List ℕ
-    part = take (at + 2 + len - (at + k)) (drop (at + k) s)
-
+  -- the part that the code cuts out
+  module _ (o : length s < 65536) {part : List ℕ} (q : part ≡ exprPart s at) where
     pub measurable : (isWhole (parse Table known part) ≡ true) × (length part < 65536)
     measurable =
-        let l = length-take-le (at + 2 + len - (at + k)) (drop (at + k) s) (omega (arith, h .whole, length-drop (at + k) s)) in
-        (ap isWhole (expr-part h len k p q), omega (arith, h .whole))
+        let k = exprStart (getD s (at + 2) 0) in
+        (ap isWhole (expr-whole h q), omega (arith, ap length q, length-take-le (2 + numberOf 2 (drop at s) - k) (drop (at + k) s) (omega (arith, h .whole, h .starts, length-drop (at + k) s)), h .whole))
 
     pub measured : (size : ℕ) → size ≡ exprSize (tokensOf (parse Table known part)) → size ≤ 2 * length part → Measured size
-    measured size e l = record { is = e ∙ ap (λ e. exprSize (tokensOf e)) (expr-part h len k p q); little = omega (arith, measurable .1) }
+    measured size e l = record { is = e ∙ ap (λ e. exprSize (tokensOf e)) (expr-whole h q); little = omega (arith, measurable .1) }
 
   module _ {size : ℕ} (m : Measured size) (i : ℕ) where
     abbrev rec : Body Instr

@@ -6,10 +6,10 @@ use native.Mathlib.Numerals.{add-one}
 use mathlib.Core.Path.{_≡_, refl, sym, ap, _∙_, subst, fun-ext}
 use mathlib.Core.Bool.{Bool, true, false, not, cond, _&&_}
 use mathlib.Core.List.{List, [], _∷_, _++_, append-nil}
-use lib.ListN.{length, take, drop, getD, set}
+use lib.ListN.{length, drop, getD, set}
 use lib.Seq.{getD-set-same, getD-set-other}
 use lib.Dec.{eqb, leb, ltb}
-use borrow.Author.Tests.{eqb-true, eqb-false, eq-eqb, ne-eqb, le-leb, lt-leb, lt-ltb, le-ltb}
+use borrow.Author.Tests.{eqb-true, eqb-false, le-leb, lt-leb, lt-ltb, le-ltb}
 use Rattle.expr.specs.declared.File.the-variants.{Table}
 use Rattle.expr.specs.Number.{numberOf}
 use Rattle.expr.specs.Word.{Zero}
@@ -22,9 +22,9 @@ use Rattle.file.specs.File.{Body, Good, recordOf, recordBytes, recordsBytes}
 use Rattle.file.specs.Shown.{kindOf}
 use Rattle.table.specs.Table.{Instr, Assign, Test, IfThenGoto, instr}
 use Rattle.table.specs.Run.{placeIn}
-use Rattle.table.specs.Shown.{exprStart, exprOf}
+use Rattle.table.specs.Shown.{exprPart, exprOf}
 use Rattle.table.proofs.Held.{Held}
-use Rattle.table.proofs.Moves.{expr-part, place-is}
+use Rattle.table.proofs.Moves.{expr-whole, place-is}
 use Rattle.trace.specs.Trace.{stmtBytes}
 use Rattle.trace.specs.Trace as T
 use Rattle.write.specs.Splice.{Wrote}
@@ -50,17 +50,6 @@ current-set names s v h = fun-ext (λ x. go x (eqb x s) refl)
     go : (x : ℕ) (b : Bool) → eqb x s ≡ b → currentOf (set names s v) x ≡ cond b v (currentOf names x)
     go x true e = ap (currentOf (set names s v)) (eqb-true x s e) ∙ getD-set-same names s v s h
     go x false e = getD-set-other names s x v x (λ q. eqb-false x s e q)
-
--- ---- where the expression begins in a record
-
-pub assign-starts : (kind : ℕ) → kind ≡ 1 → 4 ≡ exprStart kind
-assign-starts kind e = sym (rw (eq-eqb kind 1 e))
-
-pub jump-starts : (kind : ℕ) → kind ≡ 4 → 5 ≡ exprStart kind
-jump-starts kind e = sym (rw (ne-eqb kind 1 (λ q. omega arith), eq-eqb kind 4 e))
-
-pub test-starts : (kind : ℕ) → (kind ≡ 1 → ⊥) → (kind ≡ 4 → ⊥) → 3 ≡ exprStart kind
-test-starts kind a b = sym (rw (ne-eqb kind 1 a, ne-eqb kind 4 b))
 
 -- ---- one place
 
@@ -105,14 +94,11 @@ module _ {n : ℕ} {s : List ℕ} {at : ℕ} (names : List ℕ) (h : Held (lengt
   here : (j : ℕ) → j ≡ r * (n + 1) + i → j ≡ placeIn n r i
   here j q = q ∙ place-is n i r
 
-  -- ---- the part that the code cuts out for the expression, with its own numbers for the length and the start
+  -- ---- the part that the code cuts out for the expression
 
-  module _ (len k : ℕ) (p : len ≡ numberOf 2 (drop at s)) (q : k ≡ exprStart (getD s (at + 2) 0)) where
-    abbrev part : List ℕ
-    part = take (at + 2 + len - (at + k)) (drop (at + k) s)
-
-    is-part : parse Table (below (length names)) (take (at + 2 + len - (at + k)) (drop (at + k) s)) ≡ Whole e
-    is-part = expr-part h len k p q
+  module _ (part : List ℕ) (q : part ≡ exprPart s at) where
+    is-part : parse Table (below (length names)) part ≡ Whole e
+    is-part = expr-whole h q
 
     pub part-whole : isWhole (parse Table (below (length names)) part) ≡ true
     part-whole = ap isWhole is-part
@@ -162,9 +148,6 @@ module _ {n : ℕ} {s : List ℕ} {at : ℕ} (names : List ℕ) (h : Held (lengt
     module _ (kind : getD s (at + 2) 0 ≡ 4) (t : ℕ) (target : t ≡ numberOf 2 (drop (at + 3) s)) where
       jumps : h .instruction ≡ IfThenGoto t e
       jumps = h .jumps kind .0 ∙ ap {B = Instr} (λ t. IfThenGoto t e) (sym target)
-
-      pub target-inside : t ≤ n
-      target-inside = omega (arith, h .jumps kind .1)
 
       goes-to : (goal : ℕ) → actionIn n K r i (IfThenGoto t e) ≡ Jump goal e → (j : ℕ) → j ≡ r * (n + 1) + i → (g : ℕ) → g ≡ goal → {out : List ℕ} {to : ℕ} {out′ : List ℕ} {to′ : ℕ}
           → Wrote out to (recordBytes stmtBytes (T.Assign j new (guarded w j (rename (currentOf names) (tokensOf (parse Table (below (length names)) part)) ++ Const g ∷ Symbol w ∷ Ite ∷ []) (Symbol w)))) out′ to′

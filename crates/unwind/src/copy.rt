@@ -40,14 +40,14 @@ fn write_jump(
     requires { ⌜ (at < 65536) × (n ≤ 1024) × (i < n) × (r ≤ bound) × (bound ≤ 255) × (f .next < 65535) × (isGood (recordOf (instr (length (now names)) n) (drop at (now table))) ≡ true) × (f .to + length (recordsBytes stmtBytes (statements Assume (newestOf (now names) (f .control) (f .next)) (placeOf n bound r i (recordOf (instr (length (now names)) n) (drop at (now table))) ∷ []))) ≤ length (now out)) × (getD (now table) (at + 2) 0 ≡ 4) ⌝ }
     ensures { λ g. ⌜ Written (newestOf (now (names .entry)) (f .control) (f .next)) (placeOf n bound r i (recordOf (instr (length (now (names .entry))) n) (drop at (now (table .entry)))) ∷ []) (now (out .entry)) (f .to) (now (out .exit)) (now (names .entry)) g ⌝ }
 {
-    let end = at + 2 + number::two_at(table, at);
+    let e = read::expr_at(table, at);
     let t = number::two_at(table, at + 3);
     let j = r * (n + 1) + i;
     let w = f.control;
     let new = f.next;
     if i < t {
         let goal = r * (n + 1) + t;
-        let to = record::put_jump(&table[at + 5..end], names, w, j, new, goal, out, f.to);
+        let to = record::put_jump(e, names, w, j, new, goal, out, f.to);
         return Front {
             control: new,
             next: new + 1,
@@ -56,14 +56,14 @@ fn write_jump(
     }
     if r < bound {
         let goal = (r + 1) * (n + 1) + t;
-        let to = record::put_jump(&table[at + 5..end], names, w, j, new, goal, out, f.to);
+        let to = record::put_jump(e, names, w, j, new, goal, out, f.to);
         return Front {
             control: new,
             next: new + 1,
             to: to,
         };
     }
-    let to = record::put_bound(&table[at + 5..end], names, w, j, out, f.to);
+    let to = record::put_bound(e, names, w, j, out, f.to);
     Front {
         control: w,
         next: new,
@@ -90,14 +90,14 @@ fn write_place(
     if kind == 4 {
         return write_jump(table, at, n, bound, r, i, &*names, f, out);
     }
-    let end = at + 2 + number::two_at(table, at);
+    let e = read::expr_at(table, at);
     let j = r * (n + 1) + i;
     let w = f.control;
     let new = f.next;
     if kind == 1 {
         let symbol = number::byte_at(table, at + 3);
         let old = names[symbol] as usize;
-        let to = record::put_assign(&table[at + 4..end], &*names, w, j, new, old, out, f.to);
+        let to = record::put_assign(e, &*names, w, j, new, old, out, f.to);
         names[symbol] = new as u16;
         return Front {
             control: w,
@@ -105,7 +105,7 @@ fn write_place(
             to: to,
         };
     }
-    let to = record::put_test(&table[at + 3..end], &*names, w, j, kind, out, f.to);
+    let to = record::put_test(e, &*names, w, j, kind, out, f.to);
     Front {
         control: w,
         next: new,

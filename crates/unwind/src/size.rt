@@ -24,10 +24,8 @@ fn instr_sizes(table: &[u8], at: usize, n: usize, i: usize) -> Sizes
     requires { ⌜ (at < 65536) × (length (now table) < 65536) × (isGood (recordOf (instr 64 n) (drop at (now table))) ≡ true) ⌝ }
     ensures { λ r. ⌜ (r .early ≡ sizeIn false i (recordOf (instr 64 n) (drop at (now (table .entry))))) × (r .last ≡ sizeIn true i (recordOf (instr 64 n) (drop at (now (table .entry))))) × (r .early ≤ 131200) × (r .last ≤ 131200) ⌝ }
 {
-    let end = at + 2 + number::two_at(table, at);
     let kind = table[at + 2];
-    let from = at + read::expr_start(kind);
-    let size = tokens::expr_size(&table[from..end]);
+    let size = tokens::expr_size(read::expr_at(table, at));
     if kind == 4 {
         if i < number::two_at(table, at + 3) {
             return Sizes {

@@ -1,13 +1,13 @@
 -- A jump, an Assign or a test: each `return` cites the law of its way (`proofs/Writing.antt`).
-use borrow.Author.Needs.{needs}
-use Rattle.unwind.proofs.copy.write_place.Statement.{statement}
-use Rattle.unwind.proofs.copy.write_place.Tie as tie
 use Prim.Native.Nat.{_+_, _*_, _≤_, _<_}
 use native.Mathlib.Omega.{arith}
 use mathlib.Core.Path.{refl}
 use lib.ListN.{length}
+use borrow.Author.Needs.{needs}
 use Rattle.table.proofs.Held.{Held, held-at}
-use Rattle.unwind.proofs.Writing.{place-little, assign-starts, test-starts, part-whole, assign-room, assign-written, test-room, test-written}
+use Rattle.unwind.proofs.Writing.{place-little, part-whole, assign-room, assign-written, test-room, test-written}
+use Rattle.unwind.proofs.copy.write_place.Statement.{statement}
+use Rattle.unwind.proofs.copy.write_place.Tie as tie
 
 held : (c : tie.Start) → Held (length (c .args .names .now)) (c .args .n) (c .args .table .now) (c .args .at)
 held c = held-at _ _ _ _ (c .pre .6)
@@ -17,12 +17,6 @@ here c = place-little _ _ _ (c .pre .1) (omega (arith, c .pre .2)) (omega (arith
 
 inside : (c : tie.After-byte-at) → c .byte-at .result < length (c .before .before .before .before .before .before .before .before .args .names .now)
 inside c = omega (arith, held (c .before .before .before .before .before .before .before .before) .assigns (c .before .if2 .taken) .1, c .byte-at .ensures .0)
-
-assigns-from : (c : tie.Then2) → c .before .before .before .before .before .before .before .args .at + 4 ≤ c .before .before .before .before .before .before .before .args .at + 2 + c .before .two-at .result
-assigns-from c = omega (arith, held (c .before .before .before .before .before .before .before) .starts, assign-starts _ (c .if2 .taken), c .before .two-at .ensures .0)
-
-tests-from : (c : tie.Else2) → c .before .before .before .before .before .before .before .args .at + 3 ≤ c .before .before .before .before .before .before .before .args .at + 2 + c .before .two-at .result
-tests-from c = omega (arith, held (c .before .before .before .before .before .before .before) .starts, test-starts _ (c .if2 .left) (c .before .before .if1 .left), c .before .two-at .ensures .0)
 
 add-kind : tie.Need-add-kind
 add-kind c = search needs
@@ -42,14 +36,8 @@ same-length-2 c = search needs
 returns : tie.Need-returns
 returns c = c .before .before .write-jump .ensures
 
-add-end : tie.Need-add-end
-add-end c = search needs
-
-two-at-requires : tie.Need-two-at-requires
-two-at-requires c κs = omega (arith, held (c .before .before .before .before .before) .whole)
-
-add-end-2 : tie.Need-add-end-2
-add-end-2 c = omega (arith, held (c .before .before .before .before .before .before) .whole, c .before .before .before .before .before .before .pre .0)
+expr-at-requires : tie.Need-expr-at-requires
+expr-at-requires c κs = let h = held (c .before .before .before .before .before) in (h .whole, h .starts)
 
 add-j : tie.Need-add-j
 add-j c = search needs
@@ -75,32 +63,22 @@ slice-read-old c = inside (c .before)
 cast-old : tie.Need-cast-old
 cast-old c = omega (arith, c .slice-known4 .given (c .before .byte-at .result))
 
-add-put-assign : tie.Need-add-put-assign
-add-put-assign c = search needs
-
-sub-put-assign : tie.Need-sub-put-assign
-sub-put-assign c = omega (arith, assigns-from (c .before .before))
-
-part-put-assign-start : tie.Need-part-put-assign-start
-part-put-assign-start c = omega (arith, assigns-from (c .before .before))
-
-part-put-assign-end : tie.Need-part-put-assign-end
-part-put-assign-end c = omega (arith, held (c .before .before .before .before .before .before .before .before .before) .whole, c .before .before .before .two-at .ensures .0)
-
 put-assign-requires : tie.Need-put-assign-requires
-put-assign-requires c κs = let s = c .before .before .before .before .before .before .before .before .before .before .before .before in let k = c .before .before .before .before .before .if2 .taken in let q = assign-starts _ k in (omega (arith, here s), part-whole (s .args .names .now) (held s) (s .args .bound) (s .args .r) (s .args .i) (s .args .f .control) (s .args .f .next) (c .before .before .before .before .before .before .two-at .result) 4 (c .before .before .before .before .before .before .two-at .ensures .0) q, assign-room (s .args .names .now) (held s) (s .args .bound) (s .args .r) (s .args .i) (s .args .f .control) (s .args .f .next) (c .before .before .before .before .before .before .two-at .result) 4 (c .before .before .before .before .before .before .two-at .ensures .0) q k _ _ (s .pre .7))
+put-assign-requires c κs =
+    let s = c .before .before .before .before .before .before .before .before .before .before .before in
+    (omega (arith, here s), part-whole (s .args .names .now) (held s) (s .args .bound) (s .args .r) (s .args .i) (s .args .f .control) (s .args .f .next) _ (c .before .before .before .before .before .expr-at .ensures), assign-room (s .args .names .now) (held s) (s .args .bound) (s .args .r) (s .args .i) (s .args .f .control) (s .args .f .next) _ (c .before .before .before .before .before .expr-at .ensures) (c .before .before .before .before .if2 .taken) _ _ (s .pre .7))
 
 cast-names : tie.Need-cast-names
-cast-names c = omega (arith, c .before .before .before .before .before .before .before .before .before .before .before .before .before .before .before .pre .5)
+cast-names c = omega (arith, c .before .before .before .before .before .before .before .before .before .before .before .before .before .before .pre .5)
 
 mul-names : tie.Need-mul-names
 mul-names c = search needs
 
 slice-write-names : tie.Need-slice-write-names
-slice-write-names c = inside (c .before .before .before .before .before .before .before)
+slice-write-names c = inside (c .before .before .before .before .before .before)
 
 add-t28 : tie.Need-add-t28
-add-t28 c = omega (arith, c .before .before .before .before .before .before .before .before .before .before .before .before .before .before .before .pre .5)
+add-t28 c = omega (arith, c .before .before .before .before .before .before .before .before .before .before .before .before .before .before .pre .5)
 
 same-length-3 : tie.Need-same-length-3
 same-length-3 c = search needs
@@ -109,22 +87,17 @@ same-length-4 : tie.Need-same-length-4
 same-length-4 c = search needs
 
 returns-2 : tie.Need-returns-2
-returns-2 c = let s = c .before .before .before .before .before .before .before .before .before .before .before .before .before .before .before in let k = c .before .before .before .before .before .before .before .before .if2 .taken in assign-written (s .args .names .now) (held s) (s .args .bound) (s .args .r) (s .args .i) (s .args .f .control) (s .args .f .next) (c .before .before .before .before .before .before .before .before .before .two-at .result) 4 (c .before .before .before .before .before .before .before .before .before .two-at .ensures .0) (assign-starts _ k) k _ (c .before .before .before .before .before .before .before .byte-at .result) refl (c .before .before .before .before .before .before .before .byte-at .ensures .0) (c .before .before .put-assign .ensures)
-
-add-put-test : tie.Need-add-put-test
-add-put-test c = search needs
-
-sub-put-test : tie.Need-sub-put-test
-sub-put-test c = omega (arith, tests-from c)
-
-part-put-test-start : tie.Need-part-put-test-start
-part-put-test-start c = omega (arith, tests-from c)
-
-part-put-test-end : tie.Need-part-put-test-end
-part-put-test-end c = omega (arith, held (c .before .before .before .before .before .before .before) .whole, c .before .two-at .ensures .0)
+returns-2 c =
+    let s = c .before .before .before .before .before .before .before .before .before .before .before .before .before .before in
+    assign-written (s .args .names .now) (held s) (s .args .bound) (s .args .r) (s .args .i) (s .args .f .control) (s .args .f .next) _ (c .before .before .before .before .before .before .before .before .expr-at .ensures) (c .before .before .before .before .before .before .before .if2 .taken) _ (c .before .before .before .before .before .before .byte-at .result) refl (c .before .before .before .before .before .before .byte-at .ensures .0) (c .before .before .put-assign .ensures)
 
 put-test-requires : tie.Need-put-test-requires
-put-test-requires c κs = let s = c .before .before .before .before .before .before .before .before .before .before in let a = c .before .before .before .if2 .left in let b = c .before .before .before .before .before .if1 .left in let q = test-starts _ a b in let k = held s .kinds a b in (omega (arith, here s), part-whole (s .args .names .now) (held s) (s .args .bound) (s .args .r) (s .args .i) (s .args .f .control) (s .args .f .next) (c .before .before .before .before .two-at .result) 3 (c .before .before .before .before .two-at .ensures .0) q, test-room (s .args .names .now) (held s) (s .args .bound) (s .args .r) (s .args .i) (s .args .f .control) (s .args .f .next) (c .before .before .before .before .two-at .result) 3 (c .before .before .before .before .two-at .ensures .0) q a b _ _ (s .pre .7), k .0, k .1)
+put-test-requires c κs =
+    let s = c .before .before .before .before .before .before .before .before .before in
+    let a = c .before .before .if2 .left in
+    let b = c .before .before .before .before .if1 .left in
+    let k = held s .kinds a b in
+    (omega (arith, here s), part-whole (s .args .names .now) (held s) (s .args .bound) (s .args .r) (s .args .i) (s .args .f .control) (s .args .f .next) _ (c .before .before .before .expr-at .ensures), test-room (s .args .names .now) (held s) (s .args .bound) (s .args .r) (s .args .i) (s .args .f .control) (s .args .f .next) _ (c .before .before .before .expr-at .ensures) a b _ _ (s .pre .7), k .0, k .1)
 
 same-length-5 : tie.Need-same-length-5
 same-length-5 c = search needs
@@ -133,7 +106,9 @@ same-length-6 : tie.Need-same-length-6
 same-length-6 c = search needs
 
 returns-3 : tie.Need-returns-3
-returns-3 c = let s = c .before .before .before .before .before .before .before .before .before .before .before .before .before in let a = c .before .before .before .before .before .before .if2 .left in let b = c .before .before .before .before .before .before .before .before .if1 .left in test-written (s .args .names .now) (held s) (s .args .bound) (s .args .r) (s .args .i) (s .args .f .control) (s .args .f .next) (c .before .before .before .before .before .before .before .two-at .result) 3 (c .before .before .before .before .before .before .before .two-at .ensures .0) (test-starts _ a b) a b _ refl (c .before .before .put-test .ensures)
+returns-3 c =
+    let s = c .before .before .before .before .before .before .before .before .before .before .before .before in
+    test-written (s .args .names .now) (held s) (s .args .bound) (s .args .r) (s .args .i) (s .args .f .control) (s .args .f .next) _ (c .before .before .before .before .before .before .expr-at .ensures) (c .before .before .before .before .before .if2 .left) (c .before .before .before .before .before .before .before .if1 .left) _ refl (c .before .before .put-test .ensures)
 
 pub write-place-spec : {M : Type 1} → statement M
 write-place-spec =
@@ -145,9 +120,7 @@ write-place-spec =
     same-length
     same-length-2
     returns
-    add-end
-    two-at-requires
-    add-end-2
+    expr-at-requires
     add-j
     mul-j
     add-j-2
@@ -156,10 +129,6 @@ write-place-spec =
     mul-old
     slice-read-old
     cast-old
-    add-put-assign
-    sub-put-assign
-    part-put-assign-start
-    part-put-assign-end
     put-assign-requires
     cast-names
     mul-names
@@ -168,10 +137,6 @@ write-place-spec =
     same-length-3
     same-length-4
     returns-2
-    add-put-test
-    sub-put-test
-    part-put-test-start
-    part-put-test-end
     put-test-requires
     same-length-5
     same-length-6
