@@ -73,7 +73,7 @@ module _ (s : List ℕ) (at : ℕ) (there : frame (drop at s) ≡ 0 → ⊥) whe
   body-some : 0 < length (bodyAt s at)
   body-some = RecordLaws.body-some anything s at tt cut-out
 
-  body-inside : at + 2 + lengthAt s at ≤ length s
+  body-inside : at + (2 + lengthAt s at) ≤ length s
   body-inside = RecordLaws.body-inside anything s at tt cut-out
 
   kind-is : getD (bodyAt s at) 0 0 ≡ kindAt s at
@@ -95,7 +95,7 @@ module _ (s : List ℕ) (at : ℕ) (there : frame (drop at s) ≡ 0 → ⊥) whe
   expr-is : (m : ℕ) → drop m (bodyAt s at) ≡ exprAt s at m
   expr-is m =
       RecordLaws.body-part anything s at tt cut-out m
-      ∙ ap (λ l. take l (drop (at + (2 + m)) s)) (let e : at + 2 + lengthAt s at - (at + (2 + m)) ≡ lengthAt s at - m = omega arith in e)
+      ∙ ap (λ l. take l (drop (at + (2 + m)) s)) (let e : 2 + lengthAt s at - (2 + m) ≡ lengthAt s at - m = omega arith in e)
 
 -- ---- expressions
 

@@ -12,6 +12,9 @@ use Rattle.file.specs.File.{Body, Good, frame, recordOf}
 use Rattle.file.specs.Shown.{restOf}
 use Rattle.file.specs.FileLaws.{framed, record-good}
 
+pub rest-length : (s : List ℕ) (at from : ℕ) → at + (2 + numberOf 2 (drop at s)) ≤ length s → from ≤ 2 + numberOf 2 (drop at s) → from + length (restOf s at from) ≡ 2 + numberOf 2 (drop at s)
+rest-length s at from h l = omega (arith, length-take-le (2 + numberOf 2 (drop at s) - from) (drop (at + from) s) (omega (arith, length-drop (at + from) s)))
+
 module _ {A : Type 0} (one : List ℕ → Body A) (s : List ℕ) (at : ℕ) (a : A) (g : recordOf one (drop at s) ≡ Good a) where
   abbrev pub body : List ℕ
   body = take (frame (drop at s)) (drop 2 (drop at s))

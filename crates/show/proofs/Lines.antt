@@ -2,11 +2,11 @@
 -- the lines. No line has more letters than six for each of its record's bytes.
 use Prim.Native.Nat.{ℕ, suc, _+_, _-_, _*_, _≤_, _<_}
 use native.Mathlib.Omega.{arith}
-use mathlib.Core.Path.{_≡_, refl, sym, ap, _∙_, subst}
+use mathlib.Core.Path.{_≡_, refl, sym, ap, ap₂, _∙_, subst}
 use mathlib.Core.Bool.{Bool, true, false, cond}
 use mathlib.Core.List.{List, [], _∷_, _++_}
-use lib.ListN.{length, take, drop, getD, length-drop}
-use lib.Seq.{length-take-le, append-snoc}
+use lib.ListN.{length, drop, getD}
+use lib.Seq.{append-snoc}
 use lib.Dec.{eqb}
 use borrow.Author.Tests.{eq-eqb, ne-eqb, lt-ltb, ltb-true}
 use Rattle.expr.specs.declared.File.the-variants.{Trace}
@@ -20,9 +20,10 @@ use Rattle.file.specs.FileLaws.{header-is, file-is, framed, record-good, Next, 
 use Rattle.file.specs.ReadingLaws.{short}
 use Rattle.trace.specs.Trace.{Stmt, Seen, atFirst, see, stmt, stmtsFrom, stmts, readTrace}
 use Rattle.trace.specs.TraceLaws.{Wider, record-wider, wider-after}
-use Rattle.trace.specs.Shown.{loose, held, exprStart, exprOf}
+use Rattle.trace.specs.Shown.{loose, held, exprStart, exprPart, exprOf}
+use Rattle.file.specs.RecordLaws.{rest-length}
 use Rattle.trace.proofs.Held.{Held, held-at}
-use Rattle.trace.proofs.Moves.{expr-part}
+use Rattle.trace.proofs.Moves.{expr-whole}
 use Rattle.write.specs.Splice.{Wrote}
 use Rattle.write.specs.SpliceLaws.{Ahead, ahead-start, ahead-step, ahead-end, ahead-length}
 use Rattle.show.specs.Ascii.{ascii}
@@ -31,55 +32,46 @@ use Rattle.show.specs.Shown.{lineIn}
 
 -- ---- one record
 
-pub part-length : (s : List ℕ) (a e : ℕ) → a ≤ e → e ≤ length s → length (take (e - a) (drop a s)) ≡ e - a
-part-length s a e h l = length-take-le (e - a) (drop a s) (omega (arith, length-drop a s))
+module _ {s : List ℕ} {at : ℕ} (h : Held 4160 loose s at) {e : List ℕ} (q : e ≡ exprPart s at) where
+  pub expr-is-whole : isWhole (parse Trace (below 4160) e) ≡ true
+  expr-is-whole = ap isWhole (expr-whole h 4160 refl q)
 
-module _ {s : List ℕ} {at : ℕ} (h : Held 4160 loose s at) where
-  pub five-bytes : 5 ≤ 2 + numberOf 2 (drop at s)
-  five-bytes = go (eqb (getD s (at + 2) 0) 1) (h .starts)
-    where
-      go : (x : Bool) → at + cond x 7 5 ≤ at + 2 + numberOf 2 (drop at s) → 5 ≤ 2 + numberOf 2 (drop at s)
-      go true l = omega arith
-      go false l = omega arith
+  tokens-are : tokensOf (parse Trace (below 4160) e) ≡ exprOf (h .statement)
+  tokens-are = ap tokensOf (expr-whole h 4160 refl q)
+
+  expr-length : exprStart (getD s (at + 2) 0) + length e ≡ 2 + numberOf 2 (drop at s)
+  expr-length = omega (arith, ap length q, rest-length s at (exprStart (getD s (at + 2) 0)) (h .whole) (h .starts))
 
   module _ (k : getD s (at + 2) 0 ≡ 1) where
-    assign-start : exprStart (getD s (at + 2) 0) ≡ 7
-    assign-start = rw (eq-eqb (getD s (at + 2) 0) 1 k)
+    pub assign-length : 7 + length e ≡ 2 + numberOf 2 (drop at s)
+    assign-length = let z : exprStart (getD s (at + 2) 0) ≡ 7 = rw (eq-eqb (getD s (at + 2) 0) 1 k) in omega (arith, expr-length)
 
-    pub seven-bytes : 7 ≤ 2 + numberOf 2 (drop at s)
-    seven-bytes = omega (arith, h .starts, assign-start)
-
-    pub assign-line : (p y len : ℕ) → p ≡ numberOf 2 (drop (at + 3) s) → y ≡ numberOf 2 (drop (at + 5) s) → len ≡ numberOf 2 (drop at s)
-        → decimal p ++ ascii " assign s" ++ decimal y ++ exprText (tokensOf (parse Trace (below 4160) (take (at + 2 + len - (at + 7)) (drop (at + 7) s)))) ++ ascii "\n"
-        ≡ lineIn (held (drop at s))
-    assign-line p y len a b l =
-        let e = exprText (exprOf (h .statement)) in
-        ap (λ q. decimal p ++ ascii " assign s" ++ decimal y ++ exprText (tokensOf q) ++ ascii "\n") (expr-part h 4160 len 7 refl l (sym assign-start))
-        ∙ ap (λ q. decimal q ++ ascii " assign s" ++ decimal y ++ e ++ ascii "\n") a
-        ∙ ap (λ q. decimal (numberOf 2 (drop (at + 3) s)) ++ ascii " assign s" ++ decimal q ++ e ++ ascii "\n") b
+    pub assign-line : (p y : ℕ) → p ≡ numberOf 2 (drop (at + 3) s) → y ≡ numberOf 2 (drop (at + 5) s)
+        → decimal p ++ ascii " assign s" ++ decimal y ++ exprText (tokensOf (parse Trace (below 4160) e)) ++ ascii "\n" ≡ lineIn (held (drop at s))
+    assign-line p y a b =
+        ap (λ t. decimal p ++ ascii " assign s" ++ decimal y ++ exprText t ++ ascii "\n") tokens-are
+        ∙ ap₂ (λ p y. decimal p ++ ascii " assign s" ++ decimal y ++ exprText (exprOf (h .statement)) ++ ascii "\n") a b
         ∙ sym (ap lineIn (h .is ∙ ap Good (h .assigns k .0)))
 
-    pub assign-whole : (len : ℕ) → len ≡ numberOf 2 (drop at s) → isWhole (parse Trace (below 4160) (take (at + 2 + len - (at + 7)) (drop (at + 7) s))) ≡ true
-    assign-whole len l = ap isWhole (expr-part h 4160 len 7 refl l (sym assign-start))
-
   module _ (k : getD s (at + 2) 0 ≡ 1 → ⊥) where
-    test-start : exprStart (getD s (at + 2) 0) ≡ 5
-    test-start = rw (ne-eqb (getD s (at + 2) 0) 1 k)
+    pub test-length : 5 + length e ≡ 2 + numberOf 2 (drop at s)
+    test-length = let z : exprStart (getD s (at + 2) 0) ≡ 5 = rw (ne-eqb (getD s (at + 2) 0) 1 k) in omega (arith, expr-length)
 
-    pub test-line : (p len : ℕ) → p ≡ numberOf 2 (drop (at + 3) s) → len ≡ numberOf 2 (drop at s)
-        → decimal p ++ (ascii " " ++ ascii (kindName (kindOf (getD s (at + 2) 0))))
-        ++ exprText (tokensOf (parse Trace (below 4160) (take (at + 2 + len - (at + 5)) (drop (at + 5) s)))) ++ ascii "\n"
-        ≡ lineIn (held (drop at s))
-    test-line p len a l =
+    pub test-line : (p : ℕ) → p ≡ numberOf 2 (drop (at + 3) s)
+        → decimal p ++ (ascii " " ++ ascii (kindName (kindOf (getD s (at + 2) 0)))) ++ exprText (tokensOf (parse Trace (below 4160) e)) ++ ascii "\n" ≡ lineIn (held (drop at s))
+    test-line p a =
         let n = ascii (kindName (kindOf (getD s (at + 2) 0))) in
-        let e = exprText (tokensOf (parse Trace (below 4160) (take (at + 2 + len - (at + 5)) (drop (at + 5) s)))) in
-        ap (λ q. q ++ e ++ ascii "\n") (sym (append-snoc (decimal p) 32 n))
-        ∙ ap (λ q. decimal p ++ ascii " " ++ n ++ exprText (tokensOf q) ++ ascii "\n") (expr-part h 4160 len 5 refl l (sym test-start))
-        ∙ ap (λ q. decimal q ++ ascii " " ++ n ++ exprText (exprOf (h .statement)) ++ ascii "\n") a
+        ap (λ t. t ++ exprText (tokensOf (parse Trace (below 4160) e)) ++ ascii "\n") (sym (append-snoc (decimal p) 32 n))
+        ∙ ap₂ (λ p t. decimal p ++ ascii " " ++ n ++ exprText t ++ ascii "\n") a tokens-are
         ∙ sym (ap lineIn (h .is ∙ ap Good (h .tests k .0)))
 
-    pub test-whole : (len : ℕ) → len ≡ numberOf 2 (drop at s) → isWhole (parse Trace (below 4160) (take (at + 2 + len - (at + 5)) (drop (at + 5) s))) ≡ true
-    test-whole len l = ap isWhole (expr-part h 4160 len 5 refl l (sym test-start))
+  -- of any kind
+  pub five-bytes : 5 ≤ 2 + numberOf 2 (drop at s)
+  five-bytes = go (eqb (getD s (at + 2) 0) 1) expr-length
+    where
+      go : (x : Bool) → cond x 7 5 + length e ≡ 2 + numberOf 2 (drop at s) → 5 ≤ 2 + numberOf 2 (drop at s)
+      go true l = omega arith
+      go false l = omega arith
 
 -- ---- the loop
 
@@ -131,7 +123,7 @@ module _ {s : List ℕ} {n : ℕ} {out₀ : List ℕ} {to : ℕ} {out : List ℕ
     pub listing-good : isGood (held (drop at s)) ≡ true
     listing-good = ap isGood holds
 
-    pub listing-inside : at + 2 + numberOf 2 (drop at s) ≤ length s
+    pub listing-inside : at + (2 + numberOf 2 (drop at s)) ≤ length s
     listing-inside = held-at 4160 loose s at listing-good .whole
 
     pub listing-room : 393210 ≤ length out₀ → next + 6 * (2 + numberOf 2 (drop at s)) ≤ length out

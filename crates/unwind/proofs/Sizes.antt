@@ -8,7 +8,7 @@ use mathlib.Core.Path.{_≡_, refl, sym, ap, ap₂, _∙_}
 use mathlib.Core.Bool.{Bool, true, false, cond, _&&_}
 use mathlib.Core.List.{List, _∷_}
 use lib.ListN.{length, drop, getD, length-drop, drop-of-length-le}
-use lib.Seq.{length-take-le, drop-drop}
+use lib.Seq.{drop-drop}
 use lib.Dec.{eqb, leb}
 use borrow.Author.Tests.{eqb-true, eqb-false, le-leb, lt-leb}
 use Rattle.expr.specs.declared.File.the-variants.{Table}
@@ -19,6 +19,7 @@ use Rattle.expr.specs.Shown.{isWhole}
 use Rattle.file.specs.File.{Body, recordOf}
 use Rattle.file.specs.Shown.{isGood, kindOf, listed}
 use Rattle.table.specs.Table.{Instr, Assign, Test, IfThenGoto, instr, readTable}
+use Rattle.file.specs.RecordLaws.{rest-length}
 use Rattle.table.specs.Shown.{exprStart, exprPart, exprOf, Ready}
 use Rattle.table.proofs.Held.{Held}
 use Rattle.table.proofs.Moves.{expr-whole}
@@ -42,9 +43,7 @@ module _ {n : ℕ} {s : List ℕ} {at : ℕ} (h : Held 64 n s at) where
   -- the part that the code cuts out
   module _ (o : length s < 65536) {part : List ℕ} (q : part ≡ exprPart s at) where
     pub measurable : (isWhole (parse Table known part) ≡ true) × (length part < 65536)
-    measurable =
-        let k = exprStart (getD s (at + 2) 0) in
-        (ap isWhole (expr-whole h q), omega (arith, ap length q, length-take-le (2 + numberOf 2 (drop at s) - k) (drop (at + k) s) (omega (arith, h .whole, h .starts, length-drop (at + k) s)), h .whole))
+    measurable = (ap isWhole (expr-whole h q), omega (arith, ap length q, rest-length s at (exprStart (getD s (at + 2) 0)) (h .whole) (h .starts), h .whole))
 
     pub measured : (size : ℕ) → size ≡ exprSize (tokensOf (parse Table known part)) → size ≤ 2 * length part → Measured size
     measured size e l = record { is = e ∙ ap (λ e. exprSize (tokensOf e)) (expr-whole h q); little = omega (arith, measurable .1) }
