@@ -1,12 +1,16 @@
 // What tables and traces share: the header and the framing of records (document 01, "Table and trace bytes").
+use expr::File;
+use expr::accept;
+use expr::accept::Checked;
 use expr::number;
 ghost use mathlib.Core.Path.{_≡_};
 ghost use Prim.Native.Nat.{_+_, _≤_};
 ghost use lib.ListN.{length, drop};
 ghost use lib.Seq.{sets};
 ghost use Rattle.expr.specs.Number.{numberOf};
+ghost use Rattle.expr.specs.Expr.{readable, parse};
 ghost use Rattle.file.specs.File.{headerReply, frame};
-ghost use Rattle.file.specs.Shown.{restOf};
+ghost use Rattle.file.specs.Shown.{exprReply, restOf};
 
 // How far the records of a file were read: a reply with its offset, 0 if all are there and nothing after them; and the number of records
 // that were read before it.
@@ -52,6 +56,18 @@ pub fn frame_at(s: &[u8], at: usize) -> usize
         return 0;
     }
     len
+}
+
+// The reply to the expression from a place of a record's body on: 0, or 7. It may read inputs, and the symbols that are marked as assigned.
+pub fn expr_reply(body: &[u8], from: usize, f: File, inputs: usize, assigned: &[bool]) -> u8
+    requires { ⌜ from ≤ length (now body) ⌝ }
+    ensures { λ r. ⌜ r ≡ exprReply (parse f (readable inputs (now (assigned .entry))) (drop from (now (body .entry)))) ⌝ }
+{
+    let c = accept::check_expr(&body[from..], f, inputs, assigned);
+    match c {
+        Checked::Fine => 0,
+        Checked::Broken(_) => 7,
+    }
 }
 
 // The bytes of the record at a place, from one of them on.

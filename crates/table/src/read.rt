@@ -1,7 +1,5 @@
 // The instructions of a table.
 use expr::File;
-use expr::accept;
-use expr::accept::Checked;
 use expr::number;
 use file::Reading;
 ghost use mathlib.Core.Path.{_≡_};
@@ -20,11 +18,7 @@ fn expr_reply(body: &[u8], from: usize, inputs: usize) -> u8
     ensures { λ r. ⌜ r ≡ exprReply (parse Table (below inputs) (drop from (now (body .entry)))) ⌝ }
 {
     let none: [bool; 0] = [false; 0];
-    let c = accept::check_expr(&body[from..], File::Table, inputs, &none);
-    match c {
-        Checked::Fine => 0,
-        Checked::Broken(_) => 7,
-    }
+    file::expr_reply(body, from, File::Table, inputs, &none)
 }
 
 // A record's bytes after its length: 0, or the reply 5, 6 or 7.

@@ -1,32 +1,16 @@
 // The statements of a trace.
 use expr::File;
-use expr::accept;
-use expr::accept::Checked;
 use expr::number;
 use file::Reading;
 ghost use mathlib.Core.Path.{_≡_};
 ghost use mathlib.Core.Bool.{true};
 ghost use Prim.Native.Nat.{_+_, _≤_, _<_};
 ghost use lib.ListN.{length, drop, getD};
-ghost use Rattle.expr.specs.declared.File.the-variants.{Trace};
 ghost use Rattle.expr.specs.Number.{numberOf};
-ghost use Rattle.expr.specs.Expr.{readable, parse};
 ghost use Rattle.file.specs.File.{recordOf};
-ghost use Rattle.file.specs.Shown.{replyOf, isGood, exprReply};
+ghost use Rattle.file.specs.Shown.{replyOf, isGood};
 ghost use Rattle.trace.specs.Trace.{stmt};
 ghost use Rattle.trace.specs.Shown.{exprStart, exprPart, seen, leastAfter, markedBy, ReadRecords, ReadTrace};
-
-// The expression from a place of a record on: 0, or 7.
-fn expr_reply(body: &[u8], from: usize, inputs: usize, assigned: &[bool]) -> u8
-    requires { ⌜ from ≤ length (now body) ⌝ }
-    ensures { λ r. ⌜ r ≡ exprReply (parse Trace (readable inputs (now (assigned .entry))) (drop from (now (body .entry)))) ⌝ }
-{
-    let c = accept::check_expr(&body[from..], File::Trace, inputs, assigned);
-    match c {
-        Checked::Fine => 0,
-        Checked::Broken(_) => 7,
-    }
-}
 
 // A record's bytes after its length: 0, or the reply 5, 6 or 7.
 fn body_reply(body: &[u8], inputs: usize, least: usize, assigned: &[bool]) -> u8
@@ -45,19 +29,19 @@ fn body_reply(body: &[u8], inputs: usize, least: usize, assigned: &[bool]) -> u8
         if inputs + 4096 <= symbol {
             return 6;
         }
-        return expr_reply(body, 5, inputs, assigned);
+        return file::expr_reply(body, 5, File::Trace, inputs, assigned);
     }
     if kind == 2 {
         if body.len() < 3 {
             return 5;
         }
-        return expr_reply(body, 3, inputs, assigned);
+        return file::expr_reply(body, 3, File::Trace, inputs, assigned);
     }
     if kind == 3 {
         if body.len() < 3 {
             return 5;
         }
-        return expr_reply(body, 3, inputs, assigned);
+        return file::expr_reply(body, 3, File::Trace, inputs, assigned);
     }
     5
 }

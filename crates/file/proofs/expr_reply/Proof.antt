@@ -1,10 +1,9 @@
 use mathlib.Core.Path.{sym, _∙_}
-use Rattle.expr.specs.declared.File.the-variants.{Trace}
 use Rattle.expr.specs.Expr.{readable}
 use Rattle.file.specs.FileLaws.{expr-fine, expr-broken}
 use borrow.Author.Needs.{needs}
-use Rattle.trace.proofs.read.expr_reply.Statement.{statement}
-use Rattle.trace.proofs.read.expr_reply.Tie as tie
+use Rattle.file.proofs.expr_reply.Statement.{statement}
+use Rattle.file.proofs.expr_reply.Tie as tie
 
 sub-check-expr : tie.Need-sub-check-expr
 sub-check-expr c = search needs
@@ -25,10 +24,10 @@ enum-told-2 : tie.Need-enum-told-2
 enum-told-2 c = search needs
 
 returns : tie.Need-returns
-returns c = let s = c .before .before .before .before .before .before .args in expr-fine Trace (readable (s .inputs) (s .assigned .now)) (s .from) (s .body .now) _ (sym (c .before .before .check-expr .ensures) ∙ c .enum-told .given .1)
+returns c = let s = c .before .before .before .before .before .before .args in expr-fine (s .f) (readable (s .inputs) (s .assigned .now)) (s .from) (s .body .now) _ (sym (c .before .before .check-expr .ensures) ∙ c .enum-told .given .1)
 
 returns-2 : tie.Need-returns-2
-returns-2 c = let s = c .before .before .before .before .before .before .args in expr-broken Trace (readable (s .inputs) (s .assigned .now)) (s .from) (s .body .now) _ _ (sym (c .before .before .check-expr .ensures) ∙ c .enum-told2 .given .1)
+returns-2 c = let s = c .before .before .before .before .before .before .args in expr-broken (s .f) (readable (s .inputs) (s .assigned .now)) (s .from) (s .body .now) _ _ (sym (c .before .before .check-expr .ensures) ∙ c .enum-told2 .given .1)
 
 pub expr-reply-spec : {M : Type 1} → statement M
 expr-reply-spec =
