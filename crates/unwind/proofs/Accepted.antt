@@ -6,9 +6,9 @@ use mathlib.Core.List.{List, [], _∷_}
 use lib.ListN.{length, drop, getD}
 use Rattle.expr.specs.Lists.{All}
 use Rattle.expr.specs.Number.{Byte}
-use Rattle.file.specs.File.{headerInputs, Good, recordOf}
+use Rattle.file.specs.File.{headerInputs, headerReply, Good, recordOf}
 use Rattle.file.specs.Shown.{listed}
-use Rattle.file.specs.FileLaws.{file-is}
+use Rattle.file.specs.FileLaws.{header-is, file-is}
 use Rattle.file.specs.ReadingLaws.{short}
 use Rattle.table.specs.Table.{Instr, instr, instrs, readTable}
 use Rattle.table.specs.TableLaws.{InstrOk}
@@ -32,15 +32,21 @@ module _ (s off : List ℕ) (n : ℕ) (o : All Byte s) (r : Ready s off n) where
   pub few : n ≤ 1024
   few = omega (arith, counted, is-loaded .table .few)
 
+  header-right : headerReply 1 1024 s ≡ 0
+  unfolding readTable
+  header-right = file-is 1 1024 instrs s (headerInputs s) (listed (readTable s)) (is-loaded .accepted) .header
+
+  pub long : 6 ≤ length s
+  long = header-is 1 1024 s header-right .long
+
   pub few-inputs : headerInputs s ≤ 64
-  few-inputs = is-loaded .table .inputs
+  few-inputs = header-is 1 1024 s header-right .inputs
+
+  pub small : length s < 65536
+  small = short 1 1024 s o header-right
 
   pub all-ok : All (InstrOk (headerInputs s) (length (listed (readTable s)))) (listed (readTable s))
   all-ok = is-loaded .table .ok
-
-  pub small : length s < 65536
-  unfolding readTable
-  small = short 1 1024 s o (file-is 1 1024 instrs s (headerInputs s) (listed (readTable s)) (is-loaded .accepted) .header)
 
   pub instr-here : (T : ℕ) → headerInputs s ≤ T → (i : ℕ) → i < n → At s off n T i
   instr-here T l i h =

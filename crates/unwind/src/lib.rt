@@ -55,16 +55,16 @@ fn first_names() -> [u16; 64]
 fn write_all(
     table: &[u8],
     offsets: &[u16],
-    inputs: usize,
     n: usize,
     bound: usize,
     count: usize,
     total: usize,
     out: &mut [u8],
 )
-    requires { ⌜ Ready (now table) (now offsets) n × (inputs ≡ headerInputs (now table)) × (bound ≤ 255) × (count ≡ 1 + (bound + 1) * (n + 1)) × (count ≤ 4096) × (total ≡ traceSize (listed (readTable (now table))) bound) × (total ≤ length (now out)) ⌝ }
-    ensures { λ _. ⌜ now (out .exit) ≡ over (encodeTrace inputs (unwind Assume inputs (listed (readTable (now (table .entry)))) bound)) (now (out .entry)) ⌝ }
+    requires { ⌜ Ready (now table) (now offsets) n × (bound ≤ 255) × (count ≡ 1 + (bound + 1) * (n + 1)) × (count ≤ 4096) × (total ≡ traceSize (listed (readTable (now table))) bound) × (total ≤ length (now out)) ⌝ }
+    ensures { λ _. ⌜ now (out .exit) ≡ over (encodeTrace (headerInputs (now (table .entry))) (unwind Assume (headerInputs (now (table .entry))) (listed (readTable (now (table .entry)))) bound)) (now (out .entry)) ⌝ }
 {
+    let inputs = table[3] as usize;
     let a = write::put_header(129, total, inputs, count, out);
     let b = record::put_opening(inputs, out, a);
     let mut names = first_names();
@@ -102,8 +102,7 @@ pub fn write_trace(table: &[u8], bound: u64, out: &mut [u8]) -> Answer
     if out.len() < total {
         return refused(10, 0);
     }
-    let inputs = table[3] as usize;
-    write_all(table, &offsets, inputs, n, k, count, total, out);
+    write_all(table, &offsets, n, k, count, total, out);
     Answer {
         reply: 0,
         offset: 0,

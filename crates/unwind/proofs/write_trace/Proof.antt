@@ -113,28 +113,22 @@ returns-5 c =
     let a = c .before .before .before .before .before .before .before in
     room-refuses _ _ _ _ _ (accepted a) (c .before .before .before .before .before .before .if2 .left) _ (count-is a) (c .before .before .before .before .before .if3 .left) _ (c .before .before .before .trace-size .ensures) (c .before .before .if4 .left) (c .before .if5 .taken) (c .refused5 .ensures)
 
-shared-slice-read-inputs : tie.Need-shared-slice-read-inputs
-shared-slice-read-inputs c = omega (arith, head (c .before .before .before .before .before .before .before) .long)
-
-cast-inputs : tie.Need-cast-inputs
-cast-inputs c = omega (arith, head (c .before .before .before .before .before .before .before) .inputs)
-
 slice-aggregate-write-all : tie.Need-slice-aggregate-write-all
 slice-aggregate-write-all c = search needs
 
 write-all-requires : tie.Need-write-all-requires
-write-all-requires c κs = (ready (c .before .before .before .before .before .before .before .before .before), refl, c .before .before .before .before .before .before .before .before .if2 .left, refl, c .before .before .before .before .before .before .before .if3 .left, c .before .before .before .before .before .trace-size .ensures, c .before .before .before .if5 .left)
+write-all-requires c κs = (ready (c .before .before .before .before .before .before .before .before), c .before .before .before .before .before .before .before .if2 .left, refl, c .before .before .before .before .before .before .if3 .left, c .before .before .before .before .trace-size .ensures, c .before .before .if5 .left)
 
-cast-t29 : tie.Need-cast-t29
-cast-t29 c = omega (arith, c .before .before .before .before .before .before .before .if4 .left)
+cast-t26 : tie.Need-cast-t26
+cast-t26 c = omega (arith, c .before .before .before .before .before .before .if4 .left)
 
 same-length : tie.Need-same-length
 same-length c = search needs
 
 returns-6 : tie.Need-returns-6
 returns-6 c =
-    let a = c .before .before .before .before .before .before .before .before .before .before .before .before in
-    trace-written _ _ _ _ _ (accepted a) (c .before .before .before .before .before .before .before .before .before .before .before .if2 .left) _ (count-is a) (c .before .before .before .before .before .before .before .before .before .before .if3 .left) _ (c .before .before .before .before .before .before .before .before .trace-size .ensures) (c .before .before .before .before .before .before .before .if4 .left) (c .before .before .before .before .before .before .if5 .left) (c .before .before .write-all .ensures)
+    let a = c .before .before .before .before .before .before .before .before .before .before .before in
+    trace-written _ _ _ _ _ (accepted a) (c .before .before .before .before .before .before .before .before .before .before .if2 .left) _ (count-is a) (c .before .before .before .before .before .before .before .before .before .if3 .left) _ (c .before .before .before .before .before .before .before .trace-size .ensures) (c .before .before .before .before .before .before .if4 .left) (c .before .before .before .before .before .if5 .left) (c .before .before .write-all .ensures)
 
 pub write-trace-spec : {M : Type 1} → statement M
 write-trace-spec =
@@ -160,10 +154,8 @@ write-trace-spec =
     returns-4
     refused-requires-5
     returns-5
-    shared-slice-read-inputs
-    cast-inputs
     slice-aggregate-write-all
     write-all-requires
-    cast-t29
+    cast-t26
     same-length
     returns-6)
