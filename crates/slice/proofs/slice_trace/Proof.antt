@@ -116,8 +116,10 @@ slice-aggregate-mask-of c = search needs
 
 mask-of-requires : tie.Need-mask-of-requires
 mask-of-requires c κs =
-    let a = c .before .before .before .before .before .before .before .before .before .before .before .before .before .before .before .before .before .before .before .before .before in
-    (head a .inputs, omega (arith, head a .inputs, c .before .before .before .before .before .before .before .before .before .before .before .before .before .before .before .before .walk-back .kept .1 .1 .1 .1 .0, c .before .before .before .before .before .before .before .before .before .before .before .before .before .before .before .before .before .before .before .before .clear .ensures .0))
+    let a = c .before .before .before .before .before .before .before .before .before .before .before .before .before .before .before .before .before .before .before .before .before in (
+      head a .inputs,
+      omega (arith, head a .inputs, c .before .before .before .before .before .before .before .before .before .before .before .before .before .before .before .before .walk-back .kept .1 .1 .1 .1 .0, c .before .before .before .before .before .before .before .before .before .before .before .before .before .before .before .before .before .before .before .before .clear .ensures .0),
+    )
 
 cast-t39 : tie.Need-cast-t39
 cast-t39 c = omega (arith, small (c .before .before .before .before .before .before .before .before .before .before .before .before .before .before .before .before .before))
@@ -128,7 +130,11 @@ same-length c = search needs
 returns-3 : tie.Need-returns-3
 returns-3 c =
     let a = c .before .before .before .before .before .before .before .before .before .before .before .before .before .before .before .before .before .before .before .before .before .before in
-    slice-written (s a) _ (accepted a) _ _ _ (c .before .before .before .before .before .before .before .before .before .before .before .before .before .before .before .before .before .walk-back .ensures) (out a) (c .before .before .before .before .before .before .before .before .before .before .before .before .before .if2 .left) (c .before .before .before .before .before .before .before .before .before .before .put-header .ensures) (c .before .before .before .before .copy-kept .ensures) _ (c .mask-of .ensures)
+    let walk-back = c .before .before .before .before .before .before .before .before .before .before .before .before .before .before .before .before .before .walk-back in
+    let if2 = c .before .before .before .before .before .before .before .before .before .before .before .before .before .if2 in
+    let put-header = c .before .before .before .before .before .before .before .before .before .before .put-header in
+    let copy-kept = c .before .before .before .before .copy-kept in
+    slice-written (s a) _ (accepted a) _ _ _ (walk-back .ensures) (out a) (if2 .left) (put-header .ensures) (copy-kept .ensures) _ (c .mask-of .ensures)
 
 pub slice-trace-spec : {M : Type 1} → statement M
 slice-trace-spec =

@@ -38,10 +38,14 @@ slice-aggregate-write-copies c = search needs
 write-copies-requires : tie.Need-write-copies-requires
 write-copies-requires c κs =
     let s = c .before .before .before .before .before .before .before .before .before .before .before .before .before .before .before in
+    let known = c .before .before .before .before .before .before .before .before .before .before .before .before .before .before in
+    let put-header = c .before .before .before .before .before .before .before .before .before .put-header in
+    let put-opening = c .before .before .before .before .before .put-opening in
+    let first-names = c .before .before .first-names in
     let table = s .args .table .now in
-    let n = c .before .before .first-names .ensures in
-    let k = few-inputs _ _ _ (bytes (c .before .before .before .before .before .before .before .before .before .before .before .before .before .before)) (s .pre .0) in
-    (s .pre .1, omega (arith, k, s .pre .2, s .pre .3), s .pre .0, omega (arith, k, n .0), omega (arith, c .before .before .before .before .before .put-opening .ensures .next, c .before .before .before .before .before .put-opening .kept .1 .0, c .before .before .before .before .before .before .before .before .before .put-header .ensures .next, c .before .before .before .before .before .before .before .before .before .put-header .kept .1 .1 .1 .1 .0, rest-size (headerInputs table) (listed (readTable table)) (s .args .bound) (c .before .before .first-names .result) (n .1), s .pre .4, s .pre .5))
+    let n = first-names .ensures in
+    let k = few-inputs _ _ _ (bytes known) (s .pre .0) in
+    (s .pre .1, omega (arith, k, s .pre .2, s .pre .3), s .pre .0, omega (arith, k, n .0), omega (arith, put-opening .ensures .next, put-opening .kept .1 .0, put-header .ensures .next, put-header .kept .1 .1 .1 .1 .0, rest-size (headerInputs table) (listed (readTable table)) (s .args .bound) (first-names .result) (n .1), s .pre .4, s .pre .5))
 
 same-length : tie.Need-same-length
 same-length c = search needs
@@ -49,8 +53,13 @@ same-length c = search needs
 returns : tie.Need-returns
 returns c =
     let s = c .before .before .before .before .before .before .before .before .before .before .before .before .before .before .before .before .before .before .before in
+    let known = c .before .before .before .before .before .before .before .before .before .before .before .before .before .before .before .before .before .before in
+    let put-header = c .before .before .before .before .before .before .before .before .before .before .before .before .before .put-header in
+    let put-opening = c .before .before .before .before .before .before .before .before .before .put-opening in
+    let first-names = c .before .before .before .before .before .before .first-names in
+    let write-copies = c .before .before .before .write-copies in
     let table = s .args .table .now in
-    all-written (headerInputs table) (listed (readTable table)) (s .args .bound) (c .before .before .before .before .before .before .first-names .result) (c .before .before .before .before .before .before .first-names .ensures .1) (s .args .n) (s .args .total) (s .args .count) (counted _ _ _ (bytes (c .before .before .before .before .before .before .before .before .before .before .before .before .before .before .before .before .before .before)) (s .pre .0)) (s .pre .4) (s .pre .2) (s .pre .5) (c .before .before .before .before .before .before .before .before .before .before .before .before .before .put-header .ensures) (c .before .before .before .before .before .before .before .before .before .put-opening .ensures) (c .before .before .before .write-copies .ensures)
+    all-written (headerInputs table) (listed (readTable table)) (s .args .bound) (first-names .result) (first-names .ensures .1) (s .args .n) (s .args .total) (s .args .count) (counted _ _ _ (bytes known) (s .pre .0)) (s .pre .4) (s .pre .2) (s .pre .5) (put-header .ensures) (put-opening .ensures) (write-copies .ensures)
 
 pub write-all-spec : {M : Type 1} → statement M
 write-all-spec =

@@ -128,7 +128,13 @@ same-length c = search needs
 returns-6 : tie.Need-returns-6
 returns-6 c =
     let a = c .before .before .before .before .before .before .before .before .before .before .before in
-    trace-written _ _ _ _ _ (accepted a) (c .before .before .before .before .before .before .before .before .before .before .if2 .left) _ (count-is a) (c .before .before .before .before .before .before .before .before .before .if3 .left) _ (c .before .before .before .before .before .before .before .trace-size .ensures) (c .before .before .before .before .before .before .if4 .left) (c .before .before .before .before .before .if5 .left) (c .before .before .write-all .ensures)
+    let if2 = c .before .before .before .before .before .before .before .before .before .before .if2 in
+    let if3 = c .before .before .before .before .before .before .before .before .before .if3 in
+    let trace-size = c .before .before .before .before .before .before .before .trace-size in
+    let if4 = c .before .before .before .before .before .before .if4 in
+    let if5 = c .before .before .before .before .before .if5 in
+    let write-all = c .before .before .write-all in
+    trace-written _ _ _ _ _ (accepted a) (if2 .left) _ (count-is a) (if3 .left) _ (trace-size .ensures) (if4 .left) (if5 .left) (write-all .ensures)
 
 pub write-trace-spec : {M : Type 1} → statement M
 write-trace-spec =

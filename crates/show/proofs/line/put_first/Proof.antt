@@ -28,19 +28,32 @@ cast-put-decimal-2 : tie.Need-cast-put-decimal-2
 cast-put-decimal-2 c = search needs
 
 put-decimal-requires-2 : tie.Need-put-decimal-requires-2
-put-decimal-requires-2 c κs = search (needs, two-digits (c .before .before .before .before .before .before .before .before .before .before .before .before .before .before .before .before .args .inputs) (omega (arith, c .before .before .before .before .before .before .before .before .before .before .before .before .before .before .before .before .pre .0)), c .before .before .before .before .before .before .before .before .put-decimal .ensures .0 .next)
+put-decimal-requires-2 c κs =
+    let start = c .before .before .before .before .before .before .before .before .before .before .before .before .before .before .before .before in
+    let put-decimal = c .before .before .before .before .before .before .before .before .put-decimal in
+    search (needs, two-digits (start .args .inputs) (omega (arith, start .pre .0)), put-decimal .ensures .0 .next)
 
 slice-aggregate-put-part-3 : tie.Need-slice-aggregate-put-part-3
 slice-aggregate-put-part-3 c = search needs
 
 put-part-requires-3 : tie.Need-put-part-requires-3
-put-part-requires-3 c κs = search (needs, two-digits (c .before .before .before .before .before .before .before .before .before .before .before .before .before .before .before .before .before .before .before .before .before .args .inputs) (omega (arith, c .before .before .before .before .before .before .before .before .before .before .before .before .before .before .before .before .before .before .before .before .before .pre .0)), c .before .before .before .before .before .before .before .before .before .before .before .before .before .put-decimal .ensures .0 .next)
+put-part-requires-3 c κs =
+    let start = c .before .before .before .before .before .before .before .before .before .before .before .before .before .before .before .before .before .before .before .before .before in
+    let put-decimal = c .before .before .before .before .before .before .before .before .before .before .before .before .before .put-decimal in
+    search (needs, two-digits (start .args .inputs) (omega (arith, start .pre .0)), put-decimal .ensures .0 .next)
 
 same-length : tie.Need-same-length
 same-length c = search needs
 
 returns : tie.Need-returns
-returns c = ((((c .before .before .before .before .before .before .before .before .before .before .before .before .before .before .before .before .before .before .before .before .put-part .ensures then c .before .before .before .before .before .before .before .before .before .before .before .before .before .before .before .before .put-decimal .ensures .0) then c .before .before .before .before .before .before .before .before .before .before .before .put-part2 .ensures) then c .before .before .before .before .before .before .before .put-decimal2 .ensures .0) then c .before .before .put-part3 .ensures, omega (arith, two-digits (c .before .before .before .before .before .before .before .before .before .before .before .before .before .before .before .before .before .before .before .before .before .before .before .before .args .inputs) (omega (arith, c .before .before .before .before .before .before .before .before .before .before .before .before .before .before .before .before .before .before .before .before .before .before .before .before .pre .0)), c .before .before .before .before .before .before .before .before .before .before .before .before .before .before .before .before .before .before .before .before .put-part .ensures .next, c .before .before .before .before .before .before .before .before .before .before .before .before .before .before .before .before .put-decimal .ensures .0 .next, c .before .before .before .before .before .before .before .before .before .before .before .put-part2 .ensures .next, c .before .before .before .before .before .before .before .put-decimal2 .ensures .1, c .before .before .put-part3 .ensures .next))
+returns c =
+    let start = c .before .before .before .before .before .before .before .before .before .before .before .before .before .before .before .before .before .before .before .before .before .before .before .before in
+    let put-part = c .before .before .before .before .before .before .before .before .before .before .before .before .before .before .before .before .before .before .before .before .put-part in
+    let put-decimal = c .before .before .before .before .before .before .before .before .before .before .before .before .before .before .before .before .put-decimal in
+    let put-part2 = c .before .before .before .before .before .before .before .before .before .before .before .put-part2 in
+    let put-decimal2 = c .before .before .before .before .before .before .before .put-decimal2 in
+    let put-part3 = c .before .before .put-part3 in
+    ((((put-part .ensures then put-decimal .ensures .0) then put-part2 .ensures) then put-decimal2 .ensures .0) then put-part3 .ensures, omega (arith, two-digits (start .args .inputs) (omega (arith, start .pre .0)), put-part .ensures .next, put-decimal .ensures .0 .next, put-part2 .ensures .next, put-decimal2 .ensures .1, put-part3 .ensures .next))
 
 pub put-first-spec : {M : Type 1} → statement M
 put-first-spec =

@@ -64,7 +64,11 @@ put-decimal-requires-2 : tie.Need-put-decimal-requires-2
 put-decimal-requires-2 c κs = search (needs, assigns (c .before .before .before .before .before .before .before))
 
 put-tokens-requires : tie.Need-put-tokens-requires
-put-tokens-requires c κs = (expr-is-whole (here (c .before .before .before .before .before .before .before .before .before .before .before .before .before .before .before .before .before .before .before .before .before)) (c .before .before .before .before .before .before .before .before .before .before .before .before .before .before .before .before .before .before .expr-at .ensures), search (needs, assigns (c .before .before .before .before .before .before .before .before .before .before .before)))
+put-tokens-requires c κs =
+    let start = c .before .before .before .before .before .before .before .before .before .before .before .before .before .before .before .before .before .before .before .before .before in
+    let expr-at = c .before .before .before .before .before .before .before .before .before .before .before .before .before .before .before .before .before .before .expr-at in
+    let after-if1 = c .before .before .before .before .before .before .before .before .before .before .before in
+    (expr-is-whole (here start) (expr-at .ensures), search (needs, assigns after-if1))
 
 slice-aggregate-put-part-2 : tie.Need-slice-aggregate-put-part-2
 slice-aggregate-put-part-2 c = search needs
@@ -77,13 +81,30 @@ same-length c = search needs
 
 returns : tie.Need-returns
 returns c =
-    (wrote-as (assign-line (here (c .before .before .before .before .before .before .before .before .before .before .before .before .before .before .before .before .before .before .before .before .before .before .before .before .before .before .before .before .before)) (c .before .before .before .before .before .before .before .before .before .before .before .before .before .before .before .before .before .before .before .before .before .before .before .before .before .before .expr-at .ensures) (c .before .before .before .before .before .before .before .before .before .before .before .before .before .before .before .before .before .before .before .if1 .taken) _ _ (c .before .before .before .before .before .before .before .before .before .before .before .before .before .before .before .before .before .before .before .before .before .before .before .before .two-at .ensures .0) (c .before .before .before .before .before .before .before .before .before .before .before .before .before .before .before .before .before .before .two-at2 .ensures .0)) ((((c .before .before .before .before .before .before .before .before .before .before .before .before .before .before .before .before .before .before .before .before .before .before .put-decimal .ensures .0 then c .before .before .before .before .before .before .before .before .before .before .before .before .before .before .before .put-part .ensures) then c .before .before .before .before .before .before .before .before .before .before .before .put-decimal2 .ensures .0) then c .before .before .before .before .before .before .before .put-tokens .ensures .0) then c .before .before .put-part2 .ensures), omega (arith, c .before .before .before .before .before .before .before .before .before .before .before .before .before .before .before .before .before .before .before .before .before .before .put-decimal .ensures .1, c .before .before .before .before .before .before .before .before .before .before .before .before .before .before .before .put-part .ensures .next, c .before .before .before .before .before .before .before .before .before .before .before .put-decimal2 .ensures .1, c .before .before .before .before .before .before .before .put-tokens .ensures .1, c .before .before .put-part2 .ensures .next, assigns (c .before .before .before .before .before .before .before .before .before .before .before .before .before .before .before .before .before .before .before)))
+    let start = c .before .before .before .before .before .before .before .before .before .before .before .before .before .before .before .before .before .before .before .before .before .before .before .before .before .before .before .before .before in
+    let expr-at = c .before .before .before .before .before .before .before .before .before .before .before .before .before .before .before .before .before .before .before .before .before .before .before .before .before .before .expr-at in
+    let two-at = c .before .before .before .before .before .before .before .before .before .before .before .before .before .before .before .before .before .before .before .before .before .before .before .before .two-at in
+    let put-decimal = c .before .before .before .before .before .before .before .before .before .before .before .before .before .before .before .before .before .before .before .before .before .before .put-decimal in
+    let after-if1 = c .before .before .before .before .before .before .before .before .before .before .before .before .before .before .before .before .before .before .before in
+    let two-at2 = c .before .before .before .before .before .before .before .before .before .before .before .before .before .before .before .before .before .before .two-at2 in
+    let put-part = c .before .before .before .before .before .before .before .before .before .before .before .before .before .before .before .put-part in
+    let put-decimal2 = c .before .before .before .before .before .before .before .before .before .before .before .put-decimal2 in
+    let put-tokens = c .before .before .before .before .before .before .before .put-tokens in
+    let put-part2 = c .before .before .put-part2 in (
+      wrote-as (assign-line (here start) (expr-at .ensures) (after-if1 .if1 .taken) _ _ (two-at .ensures .0) (two-at2 .ensures .0)) ((((put-decimal .ensures .0 then put-part .ensures) then put-decimal2 .ensures .0) then put-tokens .ensures .0) then put-part2 .ensures),
+      omega (arith, put-decimal .ensures .1, put-part .ensures .next, put-decimal2 .ensures .1, put-tokens .ensures .1, put-part2 .ensures .next, assigns after-if1),
+    )
 
 put-kind-requires : tie.Need-put-kind-requires
 put-kind-requires c κs = search (needs, some (c .before .before .before .before .before .before .before .before))
 
 put-tokens-requires-2 : tie.Need-put-tokens-requires-2
-put-tokens-requires-2 c κs = (expr-is-whole (here (c .before .before .before .before .before .before .before .before .before .before .before .before .before .before .before)) (c .before .before .before .before .before .before .before .before .before .before .before .before .expr-at .ensures), search (needs, c .before .before .before .put-kind .ensures .1, tests (c .before .before .before .before .before)))
+put-tokens-requires-2 c κs =
+    let start = c .before .before .before .before .before .before .before .before .before .before .before .before .before .before .before in
+    let expr-at = c .before .before .before .before .before .before .before .before .before .before .before .before .expr-at in
+    let after-if1 = c .before .before .before .before .before in
+    let put-kind = c .before .before .before .put-kind in
+    (expr-is-whole (here start) (expr-at .ensures), search (needs, put-kind .ensures .1, tests after-if1))
 
 slice-aggregate-put-part-3 : tie.Need-slice-aggregate-put-part-3
 slice-aggregate-put-part-3 c = search needs
@@ -96,7 +117,15 @@ same-length-2 c = search needs
 
 returns-2 : tie.Need-returns-2
 returns-2 c =
-    (wrote-as (test-line (here (c .before .before .before .before .before .before .before .before .before .before .before .before .before .before .before .before .before .before .before .before .before .before .before)) (c .before .before .before .before .before .before .before .before .before .before .before .before .before .before .before .before .before .before .before .before .expr-at .ensures) (c .before .before .before .before .before .before .before .before .before .before .before .before .before .if1 .left) _ (c .before .before .before .before .before .before .before .before .before .before .before .before .before .before .before .before .before .before .two-at .ensures .0)) (((c .before .before .before .before .before .before .before .before .before .before .before .before .before .before .before .before .put-decimal .ensures .0 then c .before .before .before .before .before .before .before .before .before .before .before .put-kind .ensures .0) then c .before .before .before .before .before .before .before .put-tokens2 .ensures .0) then c .before .before .put-part3 .ensures), omega (arith, c .before .before .before .before .before .before .before .before .before .before .before .before .before .before .before .before .put-decimal .ensures .1, c .before .before .before .before .before .before .before .before .before .before .before .put-kind .ensures .1, c .before .before .before .before .before .before .before .put-tokens2 .ensures .1, c .before .before .put-part3 .ensures .next, tests (c .before .before .before .before .before .before .before .before .before .before .before .before .before)))
+    let start = c .before .before .before .before .before .before .before .before .before .before .before .before .before .before .before .before .before .before .before .before .before .before .before in
+    let expr-at = c .before .before .before .before .before .before .before .before .before .before .before .before .before .before .before .before .before .before .before .before .expr-at in
+    let two-at = c .before .before .before .before .before .before .before .before .before .before .before .before .before .before .before .before .before .before .two-at in
+    let put-decimal = c .before .before .before .before .before .before .before .before .before .before .before .before .before .before .before .before .put-decimal in
+    let after-if1 = c .before .before .before .before .before .before .before .before .before .before .before .before .before in
+    let put-kind = c .before .before .before .before .before .before .before .before .before .before .before .put-kind in
+    let put-tokens2 = c .before .before .before .before .before .before .before .put-tokens2 in
+    let put-part3 = c .before .before .put-part3 in
+    (wrote-as (test-line (here start) (expr-at .ensures) (after-if1 .if1 .left) _ (two-at .ensures .0)) (((put-decimal .ensures .0 then put-kind .ensures .0) then put-tokens2 .ensures .0) then put-part3 .ensures), omega (arith, put-decimal .ensures .1, put-kind .ensures .1, put-tokens2 .ensures .1, put-part3 .ensures .next, tests after-if1))
 
 pub put-line-spec : {M : Type 1} → statement M
 put-line-spec =

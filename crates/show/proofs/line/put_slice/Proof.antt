@@ -28,7 +28,13 @@ same-length : tie.Need-same-length
 same-length c = search needs
 
 returns : tie.Need-returns
-returns c = (wrote-as (told-text _ (here (c .before .before .before .before .before .before .before .before .before .before .before .before .before)) (c .before .before .before .before .before .before .before .before .before .wide .result) (c .before .before .before .before .before .before .before .before .two-at .result) (c .before .before .before .before .before .before .before .before .before .wide .ensures .0) (c .before .before .before .before .before .before .before .before .two-at .ensures .0)) (c .before .before .before .before .before .before .put-first .ensures .0 then c .before .before .put-lines .ensures .0), c .before .before .put-lines .ensures .1)
+returns c =
+    let start = c .before .before .before .before .before .before .before .before .before .before .before .before .before in
+    let wide = c .before .before .before .before .before .before .before .before .before .wide in
+    let two-at = c .before .before .before .before .before .before .before .before .two-at in
+    let put-first = c .before .before .before .before .before .before .put-first in
+    let put-lines = c .before .before .put-lines in
+    (wrote-as (told-text _ (here start) (wide .result) (two-at .result) (wide .ensures .0) (two-at .ensures .0)) (put-first .ensures .0 then put-lines .ensures .0), put-lines .ensures .1)
 
 pub put-slice-spec : {M : Type 1} → statement M
 put-slice-spec =

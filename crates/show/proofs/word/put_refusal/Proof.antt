@@ -32,7 +32,13 @@ same-length : tie.Need-same-length
 same-length c = search needs
 
 returns : tie.Need-returns
-returns c = ((((c .before .before .before .before .before .before .before .before .before .before .before .before .before .before .before .before .before .before .before .before .put-part .ensures then c .before .before .before .before .before .before .before .before .before .before .before .before .before .before .before .before .put-decimal .ensures .0) then c .before .before .before .before .before .before .before .before .before .before .before .put-part2 .ensures) then c .before .before .before .before .before .before .before .put-decimal2 .ensures .0) then c .before .before .put-part3 .ensures, omega (arith, c .before .before .before .before .before .before .before .before .before .before .before .before .before .before .before .before .before .before .before .before .put-part .ensures .next, c .before .before .before .before .before .before .before .before .before .before .before .before .before .before .before .before .put-decimal .ensures .1, c .before .before .before .before .before .before .before .before .before .before .before .put-part2 .ensures .next, c .before .before .before .before .before .before .before .put-decimal2 .ensures .1, c .before .before .put-part3 .ensures .next))
+returns c =
+    let put-part = c .before .before .before .before .before .before .before .before .before .before .before .before .before .before .before .before .before .before .before .before .put-part in
+    let put-decimal = c .before .before .before .before .before .before .before .before .before .before .before .before .before .before .before .before .put-decimal in
+    let put-part2 = c .before .before .before .before .before .before .before .before .before .before .before .put-part2 in
+    let put-decimal2 = c .before .before .before .before .before .before .before .put-decimal2 in
+    let put-part3 = c .before .before .put-part3 in
+    ((((put-part .ensures then put-decimal .ensures .0) then put-part2 .ensures) then put-decimal2 .ensures .0) then put-part3 .ensures, omega (arith, put-part .ensures .next, put-decimal .ensures .1, put-part2 .ensures .next, put-decimal2 .ensures .1, put-part3 .ensures .next))
 
 pub put-refusal-spec : {M : Type 1} → statement M
 put-refusal-spec =

@@ -60,7 +60,12 @@ same-length-2 : tie.Need-same-length-2
 same-length-2 c = search needs
 
 returns-2 : tie.Need-returns-2
-returns-2 c = token-wrote (symbol-here (c .before .before .before .before .before .before .before .before)) (c .before .before .before .before .before .before .before .before .before .before .before .before .before .before .put-byte .ensures then c .before .before .before .before .before .before .put-byte2 .ensures then c .before .before .put-decimal2 .ensures .0) (omega (arith, c .before .before .before .before .before .before .before .before .before .before .before .before .before .before .put-byte .ensures .next, c .before .before .before .before .before .before .put-byte2 .ensures .next, c .before .before .put-decimal2 .ensures .1))
+returns-2 c =
+    let put-byte = c .before .before .before .before .before .before .before .before .before .before .before .before .before .before .put-byte in
+    let after-two-at = c .before .before .before .before .before .before .before .before in
+    let put-byte2 = c .before .before .before .before .before .before .put-byte2 in
+    let put-decimal2 = c .before .before .put-decimal2 in
+    token-wrote (symbol-here after-two-at) (put-byte .ensures then put-byte2 .ensures then put-decimal2 .ensures .0) (omega (arith, put-byte .ensures .next, put-byte2 .ensures .next, put-decimal2 .ensures .1))
 
 put-name-requires : tie.Need-put-name-requires
 put-name-requires c κs = (operates _ _ (c .before .before .before .before .before .before .before .before .before .before .pre .0) (c .before .before .before .before .before .before .before .before .before .before .pre .1) (c .before .before .if1 .left) (c .before .if2 .left) .pops-some, search (needs, operator-here (c .before) .size))

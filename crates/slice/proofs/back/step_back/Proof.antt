@@ -46,7 +46,13 @@ same-length-2 : tie.Need-same-length-2
 same-length-2 c = search needs
 
 returns : tie.Need-returns
-returns c = let s = c .before .before .before .before .before .before .before .before .before .before .before .before .before .before .before in stepped-kept (here s) (s .args .k) (s .args .behind) (s .args .kept .now) (s .args .needed .now) _ (c .before .before .before .before .before .before .before .before .before .before .keeps .ensures) (c .before .before .before .before .before .before .before .before .before .if1 .taken) (c .before .before .before .before .before .before .before .mark-record .last .1 .1 .0) (c .before .before .before .before .before .before .before .mark-record .ensures) _ (c .before .before .before .has-assert .ensures) _ (c .before .two-at .ensures .0)
+returns c =
+    let s = c .before .before .before .before .before .before .before .before .before .before .before .before .before .before .before in
+    let keeps = c .before .before .before .before .before .before .before .before .before .before .keeps in
+    let if1 = c .before .before .before .before .before .before .before .before .before .if1 in
+    let mark-record = c .before .before .before .before .before .before .before .mark-record in
+    let has-assert = c .before .before .before .has-assert in
+    stepped-kept (here s) (s .args .k) (s .args .behind) (s .args .kept .now) (s .args .needed .now) _ (keeps .ensures) (if1 .taken) (mark-record .last .1 .1 .0) (mark-record .ensures) _ (has-assert .ensures) _ (c .before .two-at .ensures .0)
 
 same-length-3 : tie.Need-same-length-3
 same-length-3 c = search needs

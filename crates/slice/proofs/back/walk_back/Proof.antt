@@ -38,13 +38,29 @@ cast-at : tie.Need-cast-at Inv-loop μ-loop
 cast-at c = omega (arith, c .shared-slice-known3 .given (c .before .before .loop .k - 1))
 
 step-back-requires : tie.Need-step-back-requires Inv-loop μ-loop
-step-back-requires c κs = let w = c .before .before .before .before .loop .inv in let x = stands (c .before .before .before .before .before .before .before .before .before .pre .0) (c .before .before .before .before .loop .k - 1) (omega (arith, c .before .before .before .loop-test .taken, w .inside, counted (c .before .before .before .before .before .before .before .before .before .pre .0))) in (omega (arith, c .before .before .shared-slice-known3 .given (c .before .before .before .before .loop .k - 1)), w .needed-long ∙ c .before .before .before .before .before .before .before .before .before .pre .2, omega (arith, c .before .before .before .loop-test .taken, w .inside, w .room), few-behind w (is-loaded (c .before .before .before .before .before .before .before .before .before .pre .0) .few), small-behind w (records-small (c .before .before .before .before .before .before .before .before .before .args .trace .now) (bytes (c .before .before .before .before .before .before .before .before)) (c .before .before .before .before .before .before .before .before .before .pre .0 .accepted)), ap isGood (x .good))
+step-back-requires c κs =
+    let start = c .before .before .before .before .before .before .before .before .before in
+    let known = c .before .before .before .before .before .before .before .before in
+    let loop = c .before .before .before .before .loop in
+    let loop-test = c .before .before .before .loop-test in
+    let shared-slice-known3 = c .before .before .shared-slice-known3 in
+    let w = loop .inv in
+    let x = stands (start .pre .0) (loop .k - 1) (omega (arith, loop-test .taken, w .inside, counted (start .pre .0))) in
+    (omega (arith, shared-slice-known3 .given (loop .k - 1)), w .needed-long ∙ start .pre .2, omega (arith, loop-test .taken, w .inside, w .room), few-behind w (is-loaded (start .pre .0) .few), small-behind w (records-small (start .args .trace .now) (bytes known) (start .pre .0 .accepted)), ap isGood (x .good))
 
 loop-less : tie.Need-loop-less Inv-loop μ-loop
 loop-less c = omega (arith, c .before .before .before .before .before .before .before .before .loop-test .taken)
 
 loop-again : tie.Need-loop-again Inv-loop μ-loop
-loop-again c = let w = c .before .before .before .before .before .before .before .before .before .loop .inv in let x = stands (c .before .before .before .before .before .before .before .before .before .before .before .before .before .before .pre .0) (c .before .before .before .before .before .before .before .before .before .loop .k - 1) (omega (arith, c .before .before .before .before .before .before .before .before .loop-test .taken, w .inside, counted (c .before .before .before .before .before .before .before .before .before .before .before .before .before .before .pre .0))) in walk-on w (c .before .before .before .before .before .before .before .before .loop-test .taken) (x .statement) (x .after) (x .is-here) _ (record-length (c .before .before .before .before .before .before .before .before .before .before .before .before .before .before .args .trace .now) (getD (c .before .before .before .before .before .before .before .before .before .before .before .before .before .before .args .offsets .now) (c .before .before .before .before .before .before .before .before .before .loop .k - 1) 0) (bytes (c .before .before .before .before .before .before .before .before .before .before .before .before .before)) (x .statement) (x .good)) _ (x .good) (c .before .before .before .before .step-back .ensures) (c .before .before .before .before .step-back .kept .1 .1 .1 .1 .0) (c .before .before .before .before .step-back .kept .1 .1 .1 .1 .1 .0)
+loop-again c =
+    let start = c .before .before .before .before .before .before .before .before .before .before .before .before .before .before in
+    let known = c .before .before .before .before .before .before .before .before .before .before .before .before .before in
+    let loop = c .before .before .before .before .before .before .before .before .before .loop in
+    let loop-test = c .before .before .before .before .before .before .before .before .loop-test in
+    let step-back = c .before .before .before .before .step-back in
+    let w = loop .inv in
+    let x = stands (start .pre .0) (loop .k - 1) (omega (arith, loop-test .taken, w .inside, counted (start .pre .0))) in
+    walk-on w (loop-test .taken) (x .statement) (x .after) (x .is-here) _ (record-length (start .args .trace .now) (getD (start .args .offsets .now) (loop .k - 1) 0) (bytes known) (x .statement) (x .good)) _ (x .good) (step-back .ensures) (step-back .kept .1 .1 .1 .1 .0) (step-back .kept .1 .1 .1 .1 .1 .0)
 
 same-length : tie.Need-same-length Inv-loop μ-loop
 same-length c = c .before .loop .inv .kept-long

@@ -32,7 +32,13 @@ shared-slice-read-copy-record : tie.Need-shared-slice-read-copy-record Inv-loop 
 shared-slice-read-copy-record c = omega (arith, c .before .before .loop-test .taken, c .before .before .before .before .before .before .before .before .pre .1)
 
 copy-record-requires : tie.Need-copy-record-requires Inv-loop μ-loop
-copy-record-requires c κs = let x = stands (c .before .before .before .before .before .before .before .before .before .pre .0) (c .before .before .before .before .loop .k) (c .before .before .before .loop-test .taken) in (omega (arith, c .before .before .shared-slice-known4 .given (c .before .before .before .before .loop .k)), ap isGood (x .good), copy-room (c .before .before .before .before .loop .inv) (x .statement) (x .after) (x .is-here) (omega (arith, c .before .before .before .loop-test .taken, c .before .before .before .before .before .before .before .before .before .pre .1)) _ (x .good) (c .before .before .before .before .before .before .before .before .before .pre .2))
+copy-record-requires c κs =
+    let pre = c .before .before .before .before .before .before .before .before .before .pre in
+    let loop = c .before .before .before .before .loop in
+    let loop-test = c .before .before .before .loop-test in
+    let shared-slice-known4 = c .before .before .shared-slice-known4 in
+    let x = stands (pre .0) (loop .k) (loop-test .taken) in
+    (omega (arith, shared-slice-known4 .given (loop .k)), ap isGood (x .good), copy-room (loop .inv) (x .statement) (x .after) (x .is-here) (omega (arith, loop-test .taken, pre .1)) _ (x .good) (pre .2))
 
 add-k : tie.Need-add-k Inv-loop μ-loop
 add-k c = omega (arith, c .before .before .before .before .before .before .loop-test .taken, counted (c .before .before .before .before .before .before .before .before .before .before .before .before .pre .0), is-loaded (c .before .before .before .before .before .before .before .before .before .before .before .before .pre .0) .few)
@@ -41,7 +47,13 @@ loop-less : tie.Need-loop-less Inv-loop μ-loop
 loop-less c = omega (arith, c .before .before .before .before .before .before .loop-test .taken)
 
 loop-again : tie.Need-loop-again Inv-loop μ-loop
-loop-again c = let x = stands (c .before .before .before .before .before .before .before .before .before .before .before .before .pre .0) (c .before .before .before .before .before .before .before .loop .k) (c .before .before .before .before .before .before .loop-test .taken) in copy-on (c .before .before .before .before .before .before .before .loop .inv) (x .statement) (x .after) (x .is-here) (omega (arith, c .before .before .before .before .before .before .loop-test .taken, c .before .before .before .before .before .before .before .before .before .before .before .before .pre .1)) _ (x .good) (omega (arith, c .before .before .before .before .before .before .loop-test .taken, counted (c .before .before .before .before .before .before .before .before .before .before .before .before .pre .0))) (c .before .before .copy-record .ensures)
+loop-again c =
+    let pre = c .before .before .before .before .before .before .before .before .before .before .before .before .pre in
+    let loop = c .before .before .before .before .before .before .before .loop in
+    let loop-test = c .before .before .before .before .before .before .loop-test in
+    let copy-record = c .before .before .copy-record in
+    let x = stands (pre .0) (loop .k) (loop-test .taken) in
+    copy-on (loop .inv) (x .statement) (x .after) (x .is-here) (omega (arith, loop-test .taken, pre .1)) _ (x .good) (omega (arith, loop-test .taken, counted (pre .0))) (copy-record .ensures)
 
 same-length : tie.Need-same-length Inv-loop μ-loop
 same-length c = ahead-length (c .before .loop .inv .wrote)

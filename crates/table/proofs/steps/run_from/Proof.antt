@@ -11,7 +11,6 @@ use Rattle.file.specs.File.{headerInputs}
 use Rattle.file.specs.Shown.{isGood, listed}
 use Rattle.table.specs.Table.{readTable}
 use Rattle.table.specs.RunLaws.{left}
-use Rattle.table.specs.Shown.{}
 use Rattle.table.proofs.Running.{Loaded, loaded, Running, On, start, here, end, halts, goes-on}
 use Rattle.table.proofs.steps.run_from.Statement.{statement}
 use Rattle.table.proofs.steps.run_from.Tie as tie
@@ -40,7 +39,10 @@ module _ (c : tie.After-shared-slice-known Inv-loop μ-loop) where
   few = omega (arith, counted, is-loaded .table .few)
 
 loop-holds : tie.Need-loop-holds Inv-loop μ-loop
-loop-holds c = start (c .before .before .before .args .table .now) (c .before .before .before .args .offsets .now) (c .before .before .before .args .n) (c .before .before .before .args .bound) (length (c .before .before .before .args .vals .now)) _ _ (is-loaded (c .before .before)) (counted (c .before .before)) (symbols (c .before .before) (c .before .before .before .args .vals .now) refl) (c .before .before .before .pre .1 .stored) (c .before .before .before .args .vals .now)
+loop-holds c =
+    let s = c .before .before .before in
+    let known = c .before .before in
+    start (s .args .table .now) (s .args .offsets .now) (s .args .n) (s .args .bound) (length (s .args .vals .now)) _ _ (is-loaded known) (counted known) (symbols known (s .args .vals .now) refl) (s .pre .1 .stored) (s .args .vals .now)
 
 mul-at : tie.Need-mul-at Inv-loop μ-loop
 mul-at c = omega (arith, c .before .before .before .before .before .pre .1 .room, few (c .before .before .before .before))
@@ -52,16 +54,42 @@ cast-at : tie.Need-cast-at Inv-loop μ-loop
 cast-at c = omega (arith, c .shared-slice-known3 .given (c .before .before .loop .i))
 
 step-at-requires : tie.Need-step-at-requires Inv-loop μ-loop
-step-at-requires c κs = let v = c .before .before .before .loop .inv in
-    (omega (arith, c .before .shared-slice-known3 .given (c .before .before .before .loop .i)), few (c .before .before .before .before .before .before), c .before .before .loop-test .taken, v .few, c .before .before .before .before .before .before .before .pre .0, ap isGood (here (c .before .before .before .before .before .before .before .args .table .now) (c .before .before .before .before .before .before .before .args .offsets .now) (c .before .before .before .before .before .before .before .args .n) (c .before .before .before .before .before .before .before .args .bound) (length (c .before .before .before .loop .vals)) _ _ (is-loaded (c .before .before .before .before .before .before)) (counted (c .before .before .before .before .before .before)) (symbols (c .before .before .before .before .before .before) (c .before .before .before .loop .vals) (v .long)) (c .before .before .before .before .before .before .before .pre .1 .stored) (c .before .before .before .before .before .before .before .args .vals .now) (c .before .before .before .loop .i) (c .before .before .loop-test .taken) .good))
+step-at-requires c κs =
+    let s = c .before .before .before .before .before .before .before in
+    let known = c .before .before .before .before .before .before in
+    let loop = c .before .before .before .loop in
+    let loop-test = c .before .before .loop-test in
+    let v = loop .inv in (
+      omega (arith, c .before .shared-slice-known3 .given (loop .i)),
+      few known,
+      loop-test .taken,
+      v .few,
+      s .pre .0,
+      ap isGood (here (s .args .table .now) (s .args .offsets .now) (s .args .n) (s .args .bound) (length (loop .vals)) _ _ (is-loaded known) (counted known) (symbols known (loop .vals) (v .long)) (s .pre .1 .stored) (s .args .vals .now) (loop .i) (loop-test .taken) .good),
+    )
 
 enum-known-m : tie.Need-enum-known-m Inv-loop μ-loop
 enum-known-m c = search needs
 
-on : (c : tie.After-known-told Inv-loop μ-loop) → On (listed (readTable (c .before .before .before .before .before .before .before .before .before .before .before .before .before .args .table .now))) (c .before .before .before .before .before .before .before .before .before .before .before .before .before .args .bound) (c .before .before .before .before .before .before .before .before .before .before .before .before .before .args .n) (c .before .before .before .before .before .before .before .before .before .before .before .before .before .args .vals .now) (c .before .before .before .before .before .step-at .last .1 .1 .1 .1 .1 .1 .0) (c .before .before .before .before .before .before .before .before .before .loop .i) (c .before .before .before .before .before .before .before .before .before .loop .r) (c .before .m .given .0 .0) (c .before .m .given .0 .1 .0)
-on c =
-    let v = c .before .before .before .before .before .before .before .before .before .loop .inv in
-    goes-on (c .before .before .before .before .before .before .before .before .before .before .before .before .before .args .table .now) (c .before .before .before .before .before .before .before .before .before .before .before .before .before .args .offsets .now) (c .before .before .before .before .before .before .before .before .before .before .before .before .before .args .n) (c .before .before .before .before .before .before .before .before .before .before .before .before .before .args .bound) (length (c .before .before .before .before .before .before .before .before .before .loop .vals)) _ _ (is-loaded (c .before .before .before .before .before .before .before .before .before .before .before .before)) (counted (c .before .before .before .before .before .before .before .before .before .before .before .before)) (symbols (c .before .before .before .before .before .before .before .before .before .before .before .before) (c .before .before .before .before .before .before .before .before .before .loop .vals) (v .long)) (c .before .before .before .before .before .before .before .before .before .before .before .before .before .pre .1 .stored) (c .before .before .before .before .before .before .before .before .before .before .before .before .before .args .vals .now) v (c .before .before .before .before .before .before .before .before .loop-test .taken) _ (c .before .before .before .before .before .step-at .last .1 .1 .1 .1 .1 .1 .0) (c .before .before .before .before .before .step-at .ensures) (c .before .before .before .before .before .step-at .kept .1 .1 .1 .1 .1 .1 .0) _ _ (c .before .m .given .1)
+-- a turn that goes on
+module _ (c : tie.After-known-told Inv-loop μ-loop) where
+  abbrev s : tie.Start Inv-loop μ-loop
+  s = c .before .before .before .before .before .before .before .before .before .before .before .before .before
+
+  abbrev table : List ℕ
+  table = c .before .before .before .before .before .before .before .before .before .before .before .before .before .args .table .now
+
+  abbrev left-vals : List ℕ
+  left-vals = c .before .before .before .before .before .step-at .last .1 .1 .1 .1 .1 .1 .0
+
+  on : On (listed (readTable table)) (s .args .bound) (s .args .n) (s .args .vals .now) left-vals (c .before .before .before .before .before .before .before .before .before .loop .i) (c .before .before .before .before .before .before .before .before .before .loop .r) (c .before .m .given .0 .0) (c .before .m .given .0 .1 .0)
+  on =
+      let known = c .before .before .before .before .before .before .before .before .before .before .before .before in
+      let loop = c .before .before .before .before .before .before .before .before .before .loop in
+      let loop-test = c .before .before .before .before .before .before .before .before .loop-test in
+      let step-at = c .before .before .before .before .before .step-at in
+      let v = loop .inv in
+      goes-on table (s .args .offsets .now) (s .args .n) (s .args .bound) (length (loop .vals)) _ _ (is-loaded known) (counted known) (symbols known (loop .vals) (v .long)) (s .pre .1 .stored) (s .args .vals .now) v (loop-test .taken) _ left-vals (step-at .ensures) (step-at .kept .1 .1 .1 .1 .1 .1 .0) _ _ (c .before .m .given .1)
 
 loop-less : tie.Need-loop-less Inv-loop μ-loop
 loop-less c = on c .less
@@ -79,7 +107,14 @@ same-length : tie.Need-same-length Inv-loop μ-loop
 same-length c = c .before .before .before .before .before .step-at .kept .1 .1 .1 .1 .1 .1 .0 ∙ c .before .before .before .before .before .before .before .before .before .loop .inv .long
 
 returns : tie.Need-returns Inv-loop μ-loop
-returns c = let v = c .before .before .before .before .before .before .before .before .before .loop .inv in halts (c .before .before .before .before .before .before .before .before .before .before .before .before .before .args .table .now) (c .before .before .before .before .before .before .before .before .before .before .before .before .before .args .offsets .now) (c .before .before .before .before .before .before .before .before .before .before .before .before .before .args .n) (c .before .before .before .before .before .before .before .before .before .before .before .before .before .args .bound) (length (c .before .before .before .before .before .before .before .before .before .loop .vals)) _ _ (is-loaded (c .before .before .before .before .before .before .before .before .before .before .before .before)) (counted (c .before .before .before .before .before .before .before .before .before .before .before .before)) (symbols (c .before .before .before .before .before .before .before .before .before .before .before .before) (c .before .before .before .before .before .before .before .before .before .loop .vals) (v .long)) (c .before .before .before .before .before .before .before .before .before .before .before .before .before .pre .1 .stored) (c .before .before .before .before .before .before .before .before .before .before .before .before .before .args .vals .now) v (c .before .before .before .before .before .before .before .before .loop-test .taken) _ (c .before .before .before .before .before .step-at .last .1 .1 .1 .1 .1 .1 .0) (c .before .before .before .before .before .step-at .ensures) _ _ (c .before .m2 .given .1)
+returns c =
+    let s = c .before .before .before .before .before .before .before .before .before .before .before .before .before in
+    let known = c .before .before .before .before .before .before .before .before .before .before .before .before in
+    let loop = c .before .before .before .before .before .before .before .before .before .loop in
+    let loop-test = c .before .before .before .before .before .before .before .before .loop-test in
+    let step-at = c .before .before .before .before .before .step-at in
+    let v = loop .inv in
+    halts (s .args .table .now) (s .args .offsets .now) (s .args .n) (s .args .bound) (length (loop .vals)) _ _ (is-loaded known) (counted known) (symbols known (loop .vals) (v .long)) (s .pre .1 .stored) (s .args .vals .now) v (loop-test .taken) _ (step-at .last .1 .1 .1 .1 .1 .1 .0) (step-at .ensures) _ _ (c .before .m2 .given .1)
 
 cast-t21 : tie.Need-cast-t21 Inv-loop μ-loop
 cast-t21 c = omega (arith, c .before .loop .inv .few, c .before .before .before .before .before .pre .0)
@@ -88,7 +123,11 @@ same-length-2 : tie.Need-same-length-2 Inv-loop μ-loop
 same-length-2 c = c .before .loop .inv .long
 
 returns-2 : tie.Need-returns-2 Inv-loop μ-loop
-returns-2 c = let v = c .before .loop .inv in end (c .before .before .before .before .before .args .table .now) (c .before .before .before .before .before .args .offsets .now) (c .before .before .before .before .before .args .n) (c .before .before .before .before .before .args .bound) (length (c .before .loop .vals)) _ _ (is-loaded (c .before .before .before .before)) (counted (c .before .before .before .before)) (symbols (c .before .before .before .before) (c .before .loop .vals) (v .long)) (c .before .before .before .before .before .pre .1 .stored) (c .before .before .before .before .before .args .vals .now) v (c .loop-test .left)
+returns-2 c =
+    let s = c .before .before .before .before .before in
+    let known = c .before .before .before .before in
+    let v = c .before .loop .inv in
+    end (s .args .table .now) (s .args .offsets .now) (s .args .n) (s .args .bound) (length (c .before .loop .vals)) _ _ (is-loaded known) (counted known) (symbols known (c .before .loop .vals) (v .long)) (s .pre .1 .stored) (s .args .vals .now) v (c .loop-test .left)
 
 pub run-from-spec : {M : Type 1} → statement M
 run-from-spec =

@@ -62,7 +62,12 @@ same-length-3 : tie.Need-same-length-3
 same-length-3 c = search needs
 
 returns-3 : tie.Need-returns-3
-returns-3 c = let s = c .before .before .before .before .before .before .before .before .before .before in goto-jumps (s .args .vals .now) (held s) (s .args .bound) (s .args .i) (s .args .r) _ (c .before .before .before .before .before .before .value-at .ensures) _ _ (c .before .before .before .if2 .taken) (c .before .before .if3 .left) (c .before .two-at .ensures .0) (c .jump .ensures (s .args .n) (envOf (s .args .vals .now)))
+returns-3 c =
+    let s = c .before .before .before .before .before .before .before .before .before .before in
+    let value-at = c .before .before .before .before .before .before .value-at in
+    let if2 = c .before .before .before .if2 in
+    let if3 = c .before .before .if3 in
+    goto-jumps (s .args .vals .now) (held s) (s .args .bound) (s .args .i) (s .args .r) _ (value-at .ensures) _ _ (if2 .taken) (if3 .left) (c .before .two-at .ensures .0) (c .jump .ensures (s .args .n) (envOf (s .args .vals .now)))
 
 add-failed : tie.Need-add-failed
 add-failed c = search needs
@@ -83,7 +88,12 @@ same-length-4 : tie.Need-same-length-4
 same-length-4 c = search needs
 
 returns-4 : tie.Need-returns-4
-returns-4 c = let s = c .before .before .before .before .before .before .before .before .before in test-fails (s .args .vals .now) (held s) (s .args .bound) (s .args .i) (s .args .r) _ (c .before .before .before .before .before .value-at .ensures) _ _ (c .before .before .before .if1 .left) (c .before .before .if2 .left) (c .before .if4 .taken) (place-is (s .args .n) (s .args .i) (s .args .r)) (c .failed .ensures)
+returns-4 c =
+    let s = c .before .before .before .before .before .before .before .before .before in
+    let value-at = c .before .before .before .before .before .value-at in
+    let if1 = c .before .before .before .if1 in
+    let if2 = c .before .before .if2 in
+    test-fails (s .args .vals .now) (held s) (s .args .bound) (s .args .i) (s .args .r) _ (value-at .ensures) _ _ (if1 .left) (if2 .left) (c .before .if4 .taken) (place-is (s .args .n) (s .args .i) (s .args .r)) (c .failed .ensures)
 
 add-t14 : tie.Need-add-t14
 add-t14 c = search needs

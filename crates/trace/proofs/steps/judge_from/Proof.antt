@@ -38,7 +38,10 @@ cast-at c = omega (arith, c .shared-slice-known3 .given (c .before .before .loop
 
 step-at-requires : tie.Need-step-at-requires Inv-loop μ-loop
 step-at-requires c κs =
-    (omega (arith, c .before .shared-slice-known3 .given (c .before .before .before .loop .k)), c .before .before .before .loop .inv .long ∙ c .before .before .before .before .before .before .before .pre .1, ap isGood (here (c .before .before .before .before .before .before .before .args .trace .now) (c .before .before .before .before .before .before .before .args .offsets .now) (c .before .before .before .before .before .before .before .args .n) _ (is-loaded (c .before .before .before .before .before .before .before)) (c .before .before .before .before .before .before .before .pre .0 .count) (c .before .before .before .before .before .before .before .pre .0 .stored) (c .before .before .before .loop .k) (c .before .before .loop-test .taken) .good))
+    let start = c .before .before .before .before .before .before .before in
+    let loop = c .before .before .before .loop in
+    let loop-test = c .before .before .loop-test in
+    (omega (arith, c .before .shared-slice-known3 .given (loop .k)), loop .inv .long ∙ start .pre .1, ap isGood (here (start .args .trace .now) (start .args .offsets .now) (start .args .n) _ (is-loaded start) (start .pre .0 .count) (start .pre .0 .stored) (loop .k) (loop-test .taken) .good))
 
 enum-told : tie.Need-enum-told Inv-loop μ-loop
 enum-told c = search needs
@@ -50,7 +53,12 @@ loop-less : tie.Need-loop-less Inv-loop μ-loop
 loop-less c = omega (arith, c .before .before .before .before .before .before .before .loop-test .taken)
 
 loop-again : tie.Need-loop-again Inv-loop μ-loop
-loop-again c = goes-on (c .before .before .before .before .before .before .before .before .before .before .before .before .args .trace .now) (c .before .before .before .before .before .before .before .before .before .before .before .before .args .offsets .now) (c .before .before .before .before .before .before .before .before .before .before .before .before .args .n) _ (is-loaded (c .before .before .before .before .before .before .before .before .before .before .before .before)) (c .before .before .before .before .before .before .before .before .before .before .before .before .pre .0 .count) (c .before .before .before .before .before .before .before .before .before .before .before .before .pre .0 .stored) (c .before .before .before .before .before .before .before .before .before .before .before .before .args .cells .now) (c .before .before .before .before .before .before .before .before .loop .inv) (c .before .before .before .before .before .before .before .loop-test .taken) _ (c .before .before .before .before .step-at .last .1 .1 .0) (c .before .before .before .before .step-at .ensures) (c .before .before .before .before .step-at .kept .1 .1 .0) (c .enum-told .given .1)
+loop-again c =
+    let start = c .before .before .before .before .before .before .before .before .before .before .before .before in
+    let loop = c .before .before .before .before .before .before .before .before .loop in
+    let loop-test = c .before .before .before .before .before .before .before .loop-test in
+    let step-at = c .before .before .before .before .step-at in
+    goes-on (start .args .trace .now) (start .args .offsets .now) (start .args .n) _ (is-loaded start) (start .pre .0 .count) (start .pre .0 .stored) (start .args .cells .now) (loop .inv) (loop-test .taken) _ (step-at .last .1 .1 .0) (step-at .ensures) (step-at .kept .1 .1 .0) (c .enum-told .given .1)
 
 enum-known-m : tie.Need-enum-known-m Inv-loop μ-loop
 enum-known-m c = search needs
@@ -59,7 +67,12 @@ same-length : tie.Need-same-length Inv-loop μ-loop
 same-length c = c .before .before .before .before .before .step-at .kept .1 .1 .0 ∙ c .before .before .before .before .before .before .before .before .before .loop .inv .long
 
 returns : tie.Need-returns Inv-loop μ-loop
-returns c = halts (c .before .before .before .before .before .before .before .before .before .before .before .before .before .args .trace .now) (c .before .before .before .before .before .before .before .before .before .before .before .before .before .args .offsets .now) (c .before .before .before .before .before .before .before .before .before .before .before .before .before .args .n) _ (is-loaded (c .before .before .before .before .before .before .before .before .before .before .before .before .before)) (c .before .before .before .before .before .before .before .before .before .before .before .before .before .pre .0 .count) (c .before .before .before .before .before .before .before .before .before .before .before .before .before .pre .0 .stored) (c .before .before .before .before .before .before .before .before .before .before .before .before .before .args .cells .now) (c .before .before .before .before .before .before .before .before .before .loop .inv) (c .before .before .before .before .before .before .before .before .loop-test .taken) _ (c .before .before .before .before .before .step-at .last .1 .1 .0) (c .before .before .before .before .before .step-at .ensures) _ _ (c .before .m .given .1)
+returns c =
+    let start = c .before .before .before .before .before .before .before .before .before .before .before .before .before in
+    let loop = c .before .before .before .before .before .before .before .before .before .loop in
+    let loop-test = c .before .before .before .before .before .before .before .before .loop-test in
+    let step-at = c .before .before .before .before .before .step-at in
+    halts (start .args .trace .now) (start .args .offsets .now) (start .args .n) _ (is-loaded start) (start .pre .0 .count) (start .pre .0 .stored) (start .args .cells .now) (loop .inv) (loop-test .taken) _ (step-at .last .1 .1 .0) (step-at .ensures) _ _ (c .before .m .given .1)
 
 same-length-2 : tie.Need-same-length-2 Inv-loop μ-loop
 same-length-2 c = c .before .loop .inv .long

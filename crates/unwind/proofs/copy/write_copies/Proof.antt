@@ -26,7 +26,14 @@ loop-holds : tie.Need-loop-holds Inv-loop μ-loop
 loop-holds c = copies-start _ _ _ _ _ _
 
 write-copy-requires : tie.Need-write-copy-requires Inv-loop μ-loop
-write-copy-requires c κs = let s = c .before .before .before .before .before .before .before .before in let v = c .before .before .before .loop .inv in let h = c .before .before .loop-test .taken in (h, s .pre .0, fresh-fits _ _ _ _ _ h (v .fresh) (s .pre .1), s .pre .2, omega (arith, v .wide, s .pre .3), copies-room (count-is (c .before .before .before .before .before .before .before)) v h (s .pre .4))
+write-copy-requires c κs =
+    let pre = c .before .before .before .before .before .before .before .before .pre in
+    let known = c .before .before .before .before .before .before .before in
+    let loop = c .before .before .before .loop in
+    let loop-test = c .before .before .loop-test in
+    let v = loop .inv in
+    let h = loop-test .taken in
+    (h, pre .0, fresh-fits _ _ _ _ _ h (v .fresh) (pre .1), pre .2, omega (arith, v .wide, pre .3), copies-room (count-is known) v h (pre .4))
 
 add-r : tie.Need-add-r Inv-loop μ-loop
 add-r c = omega (arith, c .before .before .before .before .before .before .before .loop-test .taken, c .before .before .before .before .before .before .before .before .before .before .before .before .before .pre .0)
@@ -35,7 +42,12 @@ loop-less : tie.Need-loop-less Inv-loop μ-loop
 loop-less c = omega (arith, c .before .before .before .before .before .before .before .loop-test .taken)
 
 loop-again : tie.Need-loop-again Inv-loop μ-loop
-loop-again c = copies-on (count-is (c .before .before .before .before .before .before .before .before .before .before .before .before)) (c .before .before .before .before .before .before .before .before .loop .inv) (c .before .before .before .before .before .before .before .loop-test .taken) _ _ _ (c .before .before .before .before .write-copy .kept .1 .1 .1 .1 .1 .0) (c .before .before .before .before .write-copy .ensures)
+loop-again c =
+    let known = c .before .before .before .before .before .before .before .before .before .before .before .before in
+    let loop = c .before .before .before .before .before .before .before .before .loop in
+    let loop-test = c .before .before .before .before .before .before .before .loop-test in
+    let write-copy = c .before .before .before .before .write-copy in
+    copies-on (count-is known) (loop .inv) (loop-test .taken) _ _ _ (write-copy .kept .1 .1 .1 .1 .1 .0) (write-copy .ensures)
 
 same-length : tie.Need-same-length Inv-loop μ-loop
 same-length c = c .before .loop .inv .wide

@@ -50,7 +50,16 @@ cast-at : tie.Need-cast-at Inv-loop μ-loop
 cast-at c = omega (arith, c .shared-slice-known3 .given (c .before .before .loop .i))
 
 write-place-requires : tie.Need-write-place-requires Inv-loop μ-loop
-write-place-requires c κs = let s = c .before .before .before .before .before .before .before .before .before in let v = c .before .before .before .before .loop .inv in let h = c .before .before .before .loop-test .taken in let o = bytes (c .before .before .before .before .before .before .before .before) in (omega (arith, c .before .before .shared-slice-known3 .given (c .before .before .before .before .loop .i)), n-few (c .before .before .before .before .before .before .before .before), h, s .pre .0, s .pre .1, omega (arith, v .fresh, s .pre .2), readable _ _ _ o (s .pre .3) v (s .pre .4) h, room-here _ _ _ o (s .pre .3) v (s .pre .4) h (s .pre .5))
+write-place-requires c κs =
+    let pre = c .before .before .before .before .before .before .before .before .before .pre in
+    let known = c .before .before .before .before .before .before .before .before in
+    let loop = c .before .before .before .before .loop in
+    let loop-test = c .before .before .before .loop-test in
+    let shared-slice-known3 = c .before .before .shared-slice-known3 in
+    let v = loop .inv in
+    let h = loop-test .taken in
+    let o = bytes known in
+    (omega (arith, shared-slice-known3 .given (loop .i)), n-few known, h, pre .0, pre .1, omega (arith, v .fresh, pre .2), readable _ _ _ o (pre .3) v (pre .4) h, room-here _ _ _ o (pre .3) v (pre .4) h (pre .5))
 
 add-i : tie.Need-add-i Inv-loop μ-loop
 add-i c = omega (arith, c .before .before .before .before .before .before .before .before .loop-test .taken, n-few (c .before .before .before .before .before .before .before .before .before .before .before .before .before))
@@ -59,7 +68,13 @@ loop-less : tie.Need-loop-less Inv-loop μ-loop
 loop-less c = omega (arith, c .before .before .before .before .before .before .before .before .loop-test .taken)
 
 loop-again : tie.Need-loop-again Inv-loop μ-loop
-loop-again c = let s = c .before .before .before .before .before .before .before .before .before .before .before .before .before .before in place-on _ _ _ (bytes (c .before .before .before .before .before .before .before .before .before .before .before .before .before)) (s .pre .3) (c .before .before .before .before .before .before .before .before .before .loop .inv) (s .pre .4) (c .before .before .before .before .before .before .before .before .loop-test .taken) _ _ _ (c .before .before .before .before .write-place .kept .1 .1 .1 .1 .1 .1 .0) (c .before .before .before .before .write-place .ensures)
+loop-again c =
+    let pre = c .before .before .before .before .before .before .before .before .before .before .before .before .before .before .pre in
+    let known = c .before .before .before .before .before .before .before .before .before .before .before .before .before in
+    let loop = c .before .before .before .before .before .before .before .before .before .loop in
+    let loop-test = c .before .before .before .before .before .before .before .before .loop-test in
+    let write-place = c .before .before .before .before .write-place in
+    place-on _ _ _ (bytes known) (pre .3) (loop .inv) (pre .4) (loop-test .taken) _ _ _ (write-place .kept .1 .1 .1 .1 .1 .1 .0) (write-place .ensures)
 
 add-put-exit : tie.Need-add-put-exit Inv-loop μ-loop
 add-put-exit c = omega (arith, n-few (c .before .before .before .before .before))

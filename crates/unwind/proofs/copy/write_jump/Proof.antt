@@ -54,7 +54,13 @@ add-goal-2 c = omega (arith, goal (c .before))
 put-jump-requires : tie.Need-put-jump-requires
 put-jump-requires c κs =
     let s = c .before .before .before .before .before .before .before in
-    (omega (arith, here s), part-whole (s .args .names .now) (held s) (s .args .bound) (s .args .r) (s .args .i) (s .args .f .control) (s .args .f .next) _ (c .before .before .before .expr-at .ensures), forward-room (s .args .names .now) (held s) (s .args .bound) (s .args .r) (s .args .i) (s .args .f .control) (s .args .f .next) _ (c .before .before .before .expr-at .ensures) (s .pre .8) (c .before .before .two-at .result) (c .before .before .two-at .ensures .0) (c .before .if1 .taken) _ _ (s .pre .7), omega (arith, goal (c .before .before)))
+    let expr-at = c .before .before .before .expr-at in
+    let after-two-at = c .before .before in (
+      omega (arith, here s),
+      part-whole (s .args .names .now) (held s) (s .args .bound) (s .args .r) (s .args .i) (s .args .f .control) (s .args .f .next) _ (expr-at .ensures),
+      forward-room (s .args .names .now) (held s) (s .args .bound) (s .args .r) (s .args .i) (s .args .f .control) (s .args .f .next) _ (expr-at .ensures) (s .pre .8) (after-two-at .two-at .result) (after-two-at .two-at .ensures .0) (c .before .if1 .taken) _ _ (s .pre .7),
+      omega (arith, goal after-two-at),
+    )
 
 add-t23 : tie.Need-add-t23
 add-t23 c = omega (arith, c .before .before .before .before .before .before .before .before .before .before .pre .5)
@@ -82,7 +88,14 @@ add-goal-5 c = omega (arith, next-goal c)
 put-jump-requires-2 : tie.Need-put-jump-requires-2
 put-jump-requires-2 c κs =
     let s = c .before .before .before .before .before .before .before .before in
-    (omega (arith, here s), part-whole (s .args .names .now) (held s) (s .args .bound) (s .args .r) (s .args .i) (s .args .f .control) (s .args .f .next) _ (c .before .before .before .before .expr-at .ensures), back-room (s .args .names .now) (held s) (s .args .bound) (s .args .r) (s .args .i) (s .args .f .control) (s .args .f .next) _ (c .before .before .before .before .expr-at .ensures) (s .pre .8) (c .before .before .before .two-at .result) (c .before .before .before .two-at .ensures .0) (c .before .before .if1 .left) (c .before .if2 .taken) _ _ (s .pre .7), omega (arith, next-goal (c .before)))
+    let expr-at = c .before .before .before .before .expr-at in
+    let two-at = c .before .before .before .two-at in
+    let if1 = c .before .before .if1 in (
+      omega (arith, here s),
+      part-whole (s .args .names .now) (held s) (s .args .bound) (s .args .r) (s .args .i) (s .args .f .control) (s .args .f .next) _ (expr-at .ensures),
+      back-room (s .args .names .now) (held s) (s .args .bound) (s .args .r) (s .args .i) (s .args .f .control) (s .args .f .next) _ (expr-at .ensures) (s .pre .8) (two-at .result) (two-at .ensures .0) (if1 .left) (c .before .if2 .taken) _ _ (s .pre .7),
+      omega (arith, next-goal (c .before)),
+    )
 
 add-t27 : tie.Need-add-t27
 add-t27 c = omega (arith, c .before .before .before .before .before .before .before .before .before .before .before .pre .5)
@@ -93,12 +106,23 @@ same-length-2 c = search needs
 returns-2 : tie.Need-returns-2
 returns-2 c =
     let s = c .before .before .before .before .before .before .before .before .before .before .before in
-    back-written (s .args .names .now) (held s) (s .args .bound) (s .args .r) (s .args .i) (s .args .f .control) (s .args .f .next) _ (c .before .before .before .before .before .before .before .expr-at .ensures) (s .pre .8) (c .before .before .before .before .before .before .two-at .result) (c .before .before .before .before .before .before .two-at .ensures .0) (c .before .before .before .before .before .if1 .left) (c .before .before .before .before .if2 .taken) _ refl _ refl (c .before .before .put-jump2 .ensures)
+    let expr-at = c .before .before .before .before .before .before .before .expr-at in
+    let two-at = c .before .before .before .before .before .before .two-at in
+    let if1 = c .before .before .before .before .before .if1 in
+    let if2 = c .before .before .before .before .if2 in
+    let put-jump2 = c .before .before .put-jump2 in
+    back-written (s .args .names .now) (held s) (s .args .bound) (s .args .r) (s .args .i) (s .args .f .control) (s .args .f .next) _ (expr-at .ensures) (s .pre .8) (two-at .result) (two-at .ensures .0) (if1 .left) (if2 .taken) _ refl _ refl (put-jump2 .ensures)
 
 put-bound-requires : tie.Need-put-bound-requires
 put-bound-requires c κs =
     let s = c .before .before .before .before .before .before .before .before in
-    (omega (arith, here s), part-whole (s .args .names .now) (held s) (s .args .bound) (s .args .r) (s .args .i) (s .args .f .control) (s .args .f .next) _ (c .before .before .before .before .expr-at .ensures), bound-room (s .args .names .now) (held s) (s .args .bound) (s .args .r) (s .args .i) (s .args .f .control) (s .args .f .next) _ (c .before .before .before .before .expr-at .ensures) (s .pre .8) (c .before .before .before .two-at .result) (c .before .before .before .two-at .ensures .0) (c .before .before .if1 .left) (c .before .if2 .left) _ _ (s .pre .7))
+    let expr-at = c .before .before .before .before .expr-at in
+    let two-at = c .before .before .before .two-at in
+    let if1 = c .before .before .if1 in (
+      omega (arith, here s),
+      part-whole (s .args .names .now) (held s) (s .args .bound) (s .args .r) (s .args .i) (s .args .f .control) (s .args .f .next) _ (expr-at .ensures),
+      bound-room (s .args .names .now) (held s) (s .args .bound) (s .args .r) (s .args .i) (s .args .f .control) (s .args .f .next) _ (expr-at .ensures) (s .pre .8) (two-at .result) (two-at .ensures .0) (if1 .left) (c .before .if2 .left) _ _ (s .pre .7),
+    )
 
 same-length-3 : tie.Need-same-length-3
 same-length-3 c = search needs
@@ -106,7 +130,12 @@ same-length-3 c = search needs
 returns-3 : tie.Need-returns-3
 returns-3 c =
     let s = c .before .before .before .before .before .before .before .before .before .before .before in
-    bound-written (s .args .names .now) (held s) (s .args .bound) (s .args .r) (s .args .i) (s .args .f .control) (s .args .f .next) _ (c .before .before .before .before .before .before .before .expr-at .ensures) (s .pre .8) (c .before .before .before .before .before .before .two-at .result) (c .before .before .before .before .before .before .two-at .ensures .0) (c .before .before .before .before .before .if1 .left) (c .before .before .before .before .if2 .left) _ refl (c .before .before .put-bound .ensures)
+    let expr-at = c .before .before .before .before .before .before .before .expr-at in
+    let two-at = c .before .before .before .before .before .before .two-at in
+    let if1 = c .before .before .before .before .before .if1 in
+    let if2 = c .before .before .before .before .if2 in
+    let put-bound = c .before .before .put-bound in
+    bound-written (s .args .names .now) (held s) (s .args .bound) (s .args .r) (s .args .i) (s .args .f .control) (s .args .f .next) _ (expr-at .ensures) (s .pre .8) (two-at .result) (two-at .ensures .0) (if1 .left) (if2 .left) _ refl (put-bound .ensures)
 
 pub write-jump-spec : {M : Type 1} → statement M
 write-jump-spec =

@@ -66,7 +66,12 @@ cast-old c = omega (arith, c .slice-known4 .given (c .before .byte-at .result))
 put-assign-requires : tie.Need-put-assign-requires
 put-assign-requires c κs =
     let s = c .before .before .before .before .before .before .before .before .before .before .before in
-    (omega (arith, here s), part-whole (s .args .names .now) (held s) (s .args .bound) (s .args .r) (s .args .i) (s .args .f .control) (s .args .f .next) _ (c .before .before .before .before .before .expr-at .ensures), assign-room (s .args .names .now) (held s) (s .args .bound) (s .args .r) (s .args .i) (s .args .f .control) (s .args .f .next) _ (c .before .before .before .before .before .expr-at .ensures) (c .before .before .before .before .if2 .taken) _ _ (s .pre .7))
+    let expr-at = c .before .before .before .before .before .expr-at in
+    let if2 = c .before .before .before .before .if2 in (
+      omega (arith, here s),
+      part-whole (s .args .names .now) (held s) (s .args .bound) (s .args .r) (s .args .i) (s .args .f .control) (s .args .f .next) _ (expr-at .ensures),
+      assign-room (s .args .names .now) (held s) (s .args .bound) (s .args .r) (s .args .i) (s .args .f .control) (s .args .f .next) _ (expr-at .ensures) (if2 .taken) _ _ (s .pre .7),
+    )
 
 cast-names : tie.Need-cast-names
 cast-names c = omega (arith, c .before .before .before .before .before .before .before .before .before .before .before .before .before .before .pre .5)
@@ -89,15 +94,24 @@ same-length-4 c = search needs
 returns-2 : tie.Need-returns-2
 returns-2 c =
     let s = c .before .before .before .before .before .before .before .before .before .before .before .before .before .before in
-    assign-written (s .args .names .now) (held s) (s .args .bound) (s .args .r) (s .args .i) (s .args .f .control) (s .args .f .next) _ (c .before .before .before .before .before .before .before .before .expr-at .ensures) (c .before .before .before .before .before .before .before .if2 .taken) _ (c .before .before .before .before .before .before .byte-at .result) refl (c .before .before .before .before .before .before .byte-at .ensures .0) (c .before .before .put-assign .ensures)
+    let expr-at = c .before .before .before .before .before .before .before .before .expr-at in
+    let if2 = c .before .before .before .before .before .before .before .if2 in
+    let byte-at = c .before .before .before .before .before .before .byte-at in
+    let put-assign = c .before .before .put-assign in
+    assign-written (s .args .names .now) (held s) (s .args .bound) (s .args .r) (s .args .i) (s .args .f .control) (s .args .f .next) _ (expr-at .ensures) (if2 .taken) _ (byte-at .result) refl (byte-at .ensures .0) (put-assign .ensures)
 
 put-test-requires : tie.Need-put-test-requires
 put-test-requires c κs =
     let s = c .before .before .before .before .before .before .before .before .before in
     let a = c .before .before .if2 .left in
     let b = c .before .before .before .before .if1 .left in
-    let k = held s .kinds a b in
-    (omega (arith, here s), part-whole (s .args .names .now) (held s) (s .args .bound) (s .args .r) (s .args .i) (s .args .f .control) (s .args .f .next) _ (c .before .before .before .expr-at .ensures), test-room (s .args .names .now) (held s) (s .args .bound) (s .args .r) (s .args .i) (s .args .f .control) (s .args .f .next) _ (c .before .before .before .expr-at .ensures) a b _ _ (s .pre .7), k .0, k .1)
+    let k = held s .kinds a b in (
+      omega (arith, here s),
+      part-whole (s .args .names .now) (held s) (s .args .bound) (s .args .r) (s .args .i) (s .args .f .control) (s .args .f .next) _ (c .before .before .before .expr-at .ensures),
+      test-room (s .args .names .now) (held s) (s .args .bound) (s .args .r) (s .args .i) (s .args .f .control) (s .args .f .next) _ (c .before .before .before .expr-at .ensures) a b _ _ (s .pre .7),
+      k .0,
+      k .1,
+    )
 
 same-length-5 : tie.Need-same-length-5
 same-length-5 c = search needs

@@ -43,7 +43,16 @@ same-length : tie.Need-same-length
 same-length c = search needs
 
 returns : tie.Need-returns
-returns c = let a = c .before .before .before .before .before .before .before .before .before .before .before .before .before .before .before .before .before .before .before .before .before .before .before .args in let e = body (c .before .before .before .before .before .before .before .before .before .before .before .before .before .before .before .before .before .before .before .before .before .before .before) in closes (Test (kindOf (a .kind)) (a .j) (guarded (a .w) (a .j) (rename (currentOf (a .names .now)) e) (Const 1))) (c .before .before .before .before .before .before .before .before .before .before .before .before .before .before .before .before .before .before .open-test .ensures then c .before .before .before .before .before .before .before .before .before .before .before .before .before .before .put-guard .ensures then c .before .before .before .before .before .before .before .before .before .before .put-tokens .ensures then c .before .before .before .before .before .before .put-holds .ensures) (test-bytes (a .w) (a .j) (rename (currentOf (a .names .now)) e) (a .kind) (c .before .before .before .before .before .before .before .before .before .before .before .before .before .before .before .before .before .before .before .before .before .before .before .pre .3) (c .before .before .before .before .before .before .before .before .before .before .before .before .before .before .before .before .before .before .before .before .before .before .before .pre .4)) (c .before .before .close .ensures)
+returns c =
+    let start = c .before .before .before .before .before .before .before .before .before .before .before .before .before .before .before .before .before .before .before .before .before .before .before in
+    let open-test = c .before .before .before .before .before .before .before .before .before .before .before .before .before .before .before .before .before .before .open-test in
+    let put-guard = c .before .before .before .before .before .before .before .before .before .before .before .before .before .before .put-guard in
+    let put-tokens = c .before .before .before .before .before .before .before .before .before .before .put-tokens in
+    let put-holds = c .before .before .before .before .before .before .put-holds in
+    let close = c .before .before .close in
+    let a = start .args in
+    let e = body start in
+    closes (Test (kindOf (a .kind)) (a .j) (guarded (a .w) (a .j) (rename (currentOf (a .names .now)) e) (Const 1))) (open-test .ensures then put-guard .ensures then put-tokens .ensures then put-holds .ensures) (test-bytes (a .w) (a .j) (rename (currentOf (a .names .now)) e) (a .kind) (start .pre .3) (start .pre .4)) (close .ensures)
 
 pub put-test-spec : {M : Type 1} → statement M
 put-test-spec =
