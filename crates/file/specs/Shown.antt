@@ -70,6 +70,7 @@ abbrev pub listed : {A : Type 0} → Input A → List A
 listed (Accepted S xs) = xs
 listed (Refused r o) = []
 
+-- in a file of which `count` records are read
 abbrev pub fileReading : {A : Type 0} → (count : ℕ) → Input A → Reading
 fileReading count (Accepted S xs) = record { reply = 0; offset = 0; count = count }
 fileReading count (Refused r at) = record { reply = r; offset = at; count = count }

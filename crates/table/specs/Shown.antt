@@ -23,6 +23,7 @@ use Rattle.table.specs.Run.{Next, Halt, Go, step}
 abbrev pub ReadRecords : (table : List ℕ) (S n : ℕ) (before after : List ℕ) → Reading → Type 0
 ReadRecords table S n before after r = File.ReadRecords {St = Unit {0}} (λ u. instr S n) (λ u a. u) table n tt before after r
 
+-- of a table's records, how many are read before the first refusal
 abbrev pub instrCount : (table : List ℕ) → ℕ
 instrCount table = fileCount {St = Unit {0}} 1 1024 (λ S n u. instr S n) (λ u a. u) (λ S. tt) table
 

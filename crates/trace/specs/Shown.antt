@@ -41,6 +41,7 @@ markedBy (Bad r) assigned = assigned
 abbrev pub ReadRecords : (trace : List ℕ) (S n : ℕ) (before after : List ℕ) → Reading → Type 0
 ReadRecords trace S n before after r = File.ReadRecords (stmt (S + 4096)) see trace n (atFirst S) before after r
 
+-- of a trace's records, how many are read before the first refusal
 abbrev pub stmtCount : (trace : List ℕ) → ℕ
 stmtCount trace = fileCount 129 4096 (λ S n. stmt (S + 4096)) see atFirst trace
 
