@@ -1,6 +1,7 @@
 -- What a reader must believe: the definitions, in document 01's order. Beside each stand its laws.
 pub mod Word
 pub mod WordLaws
+pub mod OperatorLaws
 pub mod Number
 pub mod NumberLaws
 pub mod Token
