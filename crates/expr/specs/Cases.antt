@@ -56,6 +56,91 @@ tests = (refl, refl, refl, refl, refl, refl, refl, refl, refl)
 choices : (choice 0 5 6 ≡ 6) × (choice 1 5 6 ≡ 5) × (choice 2 5 6 ≡ 5) × (choice 2147483648 5 6 ≡ 5)
 choices = (refl, refl, refl, refl)
 
+-- each operator on wide words, whose bytes all differ: a byte or a half that is lost or moved shows. The tests also have pairs that agree
+-- in one half and differ in the other. The results were worked out apart from the definitions
+wide-not : (unary 32 Not 0x12345678 ≡ 0xEDCBA987) × (unary 32 Not 0x9ABCDEF0 ≡ 0x6543210F)
+unfolding unary
+wide-not = (refl, refl)
+
+wide-neg : (unary 32 Neg 0x12345678 ≡ 0xEDCBA988) × (unary 32 Neg 0x9ABCDEF0 ≡ 0x65432110)
+unfolding unary
+wide-neg = (refl, refl)
+
+wide-zero : (unary 32 Zero 0x12345678 ≡ 0) × (unary 32 Zero 0x12340000 ≡ 0) × (unary 32 Zero 0x00005678 ≡ 0)
+    × (unary 32 Zero 0x80000000 ≡ 0)
+unfolding unary
+wide-zero = (refl, refl, refl, refl)
+
+wide-add : (binary 32 Add 0x12345678 0x9ABCDEF0 ≡ 0xACF13568) × (binary 32 Add 0xC3A5F617 0x9ABCDEF0 ≡ 0x5E62D507)
+unfolding binary
+wide-add = (refl, refl)
+
+wide-sub : (binary 32 Sub 0x9ABCDEF0 0x1357F246 ≡ 0x8764ECAA) × (binary 32 Sub 0x12345678 0xC3A5F617 ≡ 0x4E8E6061)
+unfolding binary
+wide-sub = (refl, refl)
+
+wide-mul : (binary 32 Mul 0x12345678 0x9ABCDEF0 ≡ 0x242D2080) × (binary 32 Mul 0x00012345 0x00006789 ≡ 0x75CCA2ED)
+    × (binary 32 Mul 0xC3A5F617 0x9ABCDEF1 ≡ 0xA9889DA7)
+unfolding binary
+wide-mul = (refl, refl, refl)
+
+wide-udiv : (binary 32 Udiv 0xFEDCBA98 7 ≡ 0x2468ACF1) × (binary 32 Udiv 0x9ABCDEF0 0x00001234 ≡ 0x00088028)
+    × (binary 32 Udiv 0x9ABCDEF0 0x12345678 ≡ 8)
+unfolding binary
+wide-udiv = (refl, refl, refl)
+
+wide-urem : (binary 32 Urem 0x9ABCDEF0 0x12345678 ≡ 0x091A2B30) × (binary 32 Urem 0xFEDCBA98 0x13579BDF ≡ 0x0369D045)
+    × (binary 32 Urem 0x12345678 0x9ABCDEF0 ≡ 0x12345678)
+unfolding binary
+wide-urem = (refl, refl, refl)
+
+wide-and : binary 32 And 0x73C5A69E 0x9ABCDEF0 ≡ 0x12848690
+unfolding binary
+wide-and = refl
+
+wide-or : binary 32 Or 0x12345678 0x81C4A23E ≡ 0x93F4F67E
+unfolding binary
+wide-or = refl
+
+wide-xor : binary 32 Xor 0x12345678 0xC3A5F617 ≡ 0xD191A06F
+unfolding binary
+wide-xor = refl
+
+wide-shl : (binary 32 Shl 0x12345678 4 ≡ 0x23456780) × (binary 32 Shl 0x12345678 12 ≡ 0x45678000)
+    × (binary 32 Shl 0x12345678 20 ≡ 0x67800000) × (binary 32 Shl 0x9ABCDEF1 1 ≡ 0x3579BDE2)
+unfolding binary
+wide-shl = (refl, refl, refl, refl)
+
+wide-lshr : (binary 32 Lshr 0x9ABCDEF0 4 ≡ 0x09ABCDEF) × (binary 32 Lshr 0x9ABCDEF0 12 ≡ 0x0009ABCD)
+    × (binary 32 Lshr 0x9ABCDEF0 20 ≡ 0x000009AB) × (binary 32 Lshr 0x9ABCDEF1 1 ≡ 0x4D5E6F78)
+unfolding binary
+wide-lshr = (refl, refl, refl, refl)
+
+wide-equal : (binary 32 Equal 0x12345678 0x12345678 ≡ 1) × (binary 32 Equal 0x12345678 0x92345678 ≡ 0)
+    × (binary 32 Equal 0x12345678 0x12345679 ≡ 0)
+unfolding binary
+wide-equal = (refl, refl, refl)
+
+wide-ult : (binary 32 Ult 0x12345678 0x9ABC5678 ≡ 1) × (binary 32 Ult 0x9ABC5678 0x12345678 ≡ 0)
+    × (binary 32 Ult 0x12345678 0x1234DEF0 ≡ 1) × (binary 32 Ult 0x1234DEF0 0x12345678 ≡ 0) × (binary 32 Ult 0x1234DEF0 0x9ABC5678 ≡ 1)
+unfolding binary
+wide-ult = (refl, refl, refl, refl, refl)
+
+wide-ule : (binary 32 Ule 0x12345678 0x9ABC5678 ≡ 1) × (binary 32 Ule 0x9ABC5678 0x12345678 ≡ 0)
+    × (binary 32 Ule 0x12345678 0x1234DEF0 ≡ 1) × (binary 32 Ule 0x1234DEF0 0x12345678 ≡ 0) × (binary 32 Ule 0x1234DEF0 0x9ABC5678 ≡ 1)
+unfolding binary
+wide-ule = (refl, refl, refl, refl, refl)
+
+wide-slt : (binary 32 Slt 0x9ABCDEF0 0x12345678 ≡ 1) × (binary 32 Slt 0x12345678 0x9ABCDEF0 ≡ 0)
+    × (binary 32 Slt 0x9ABC5678 0xFEDC5678 ≡ 1) × (binary 32 Slt 0xFEDC5678 0x9ABC5678 ≡ 0) × (binary 32 Slt 0x12345678 0x1234DEF0 ≡ 1)
+    × (binary 32 Slt 0x9ABCDEF0 0x9ABC5678 ≡ 0)
+unfolding binary signed
+wide-slt = (refl, refl, refl, refl, refl, refl)
+
+wide-ite : (choice 0x00010000 0x12345678 0x9ABCDEF0 ≡ 0x12345678) × (choice 0x00000100 0x12345678 0x9ABCDEF0 ≡ 0x12345678)
+    × (choice 0 0x12345678 0x9ABCDEF0 ≡ 0x9ABCDEF0)
+wide-ite = (refl, refl, refl)
+
 -- document 01's list of tokens, code after code, and the codes beside them
 codes : map operator (0x10 ∷ 0x11 ∷ 0x12 ∷ 0x20 ∷ 0x21 ∷ 0x22 ∷ 0x23 ∷ 0x24 ∷ 0x25 ∷ 0x26 ∷ 0x27 ∷ 0x28 ∷ 0x29 ∷ 0x2A ∷ 0x2B ∷ 0x2D ∷ 0x2C ∷ 0x30 ∷ [])
     ≡ map some (Un Not ∷ Un Neg ∷ Un Zero ∷ Bin Add ∷ Bin Sub ∷ Bin Mul ∷ Bin Udiv ∷ Bin Urem ∷ Bin And ∷ Bin Or ∷ Bin Xor ∷ Bin Shl ∷ Bin Lshr ∷ Bin Equal ∷ Bin Ult
