@@ -1,19 +1,22 @@
 -- What each operator computes, over the width and without the operator's text: on words, no other function meets the laws. Those of
--- not, and, or and xor, bit by bit, and that of slt are in `WordLaws`, and so is that every operator gives a word.
+-- not, and, or and xor, bit by bit, are in `WordLaws`, and so is that every operator gives a word.
 use Prim.Native.Nat.{ℕ, zero, suc, _+_, _-_, _*_, _/_, _%_, _^_, _≤_, _<_}
 use native.Mathlib.Omega.{arith}
 use native.Mathlib.Nat.{add-zero, add-suc, zero-add, add-comm, mul-zero, mul-suc, mul-assoc, pow-suc, lt-of-lt-of-le}
-use native.Mathlib.Nat.{zero-mod, mod-lt, mod-eq-of-lt, mod-self, suc-mod, mod-add-mod, add-mod-right, zero-div, div-one, div-eq-of-lt, div-add-mod'}
+use native.Mathlib.Nat.{zero-mod, mod-lt, mod-eq-of-lt, mod-self, suc-mod, mod-add-mod, add-mod-right}
+use native.Mathlib.Nat.{zero-div, div-one, div-eq-of-lt, div-add-mod'}
 use native.Mathlib.Numerals.{add-one, one-add}
 use mathlib.Core.Path.{_≡_, refl, sym, ap, _∙_}
-use mathlib.Core.Logic.{_≢_}
+use mathlib.Core.Logic.{_≢_, _⊎_, inl, inr}
 use mathlib.Core.Bool.{Bool, true, false, cond}
-use lib.Arith.{lt-of-le-ne}
+use lib.Arith.{lt-of-le-ne, digits-div, digits-mod}
 use lib.Dec.{eqb, ltb, leb}
 use lib.Pow.{pow-add, pow-mono, shl-shr, shr-shr, field, mod-mod-pow}
 use lib.Bits.{bitAnd, shifted-even}
 use borrow.Author.Tests.{ltb-true, ltb-false, lt-ltb, le-ltb, le-leb, lt-leb, eqb-true, eqb-false, eq-eqb, ne-eqb}
-use Rattle.expr.specs.Word.{Neg, Zero, Add, Sub, Mul, Udiv, Urem, And, Shl, Lshr, Equal, Ult, Ule, test, remainderByZero, unary, binary, choice, bit}
+use Rattle.expr.specs.Word.{Neg, Zero, Add, Sub, Mul, Udiv, Urem, And, Shl, Lshr, Equal, Ult, Ule, Slt}
+use Rattle.expr.specs.Word.{test, remainderByZero, unary, binary, choice, bit}
+use Rattle.expr.specs.WordLaws.{raised, same-ltb, halved, slt-raised}
 
 -- ---- add: counts on from a, b times; after 2 ^ w - 1 comes 0
 
@@ -197,6 +200,63 @@ ult-is-ule-and-not-equal w a b = go (ltb a b) refl (eqb a b) refl
     go true d false e = rw (le-leb a b (omega (arith, ltb-true a b d)))
     go false d true e = rw (le-leb a b (omega (arith, eqb-true a b e)))
     go false d false e = rw (lt-leb a b (lt-of-le-ne (ltb-false a b d) (λ q. eqb-false a b e (sym q))))
+
+-- ---- slt: ult where both words or neither have the highest bit; else 1 if a has it
+
+-- half the range: from here on words have the highest bit
+abbrev half : (w : ℕ) → ℕ
+half w = 2 ^ (w - 1)
+
+-- a word below it or not, its highest bit, and the word raised as `slt-raised` compares it
+record Low (w a : ℕ) : Type 0 where
+  small : a < half w
+  sign : bit (w - 1) a ≡ 0
+  raised-is : raised w a ≡ a + half w
+
+record High (w a : ℕ) : Type 0 where
+  large : half w ≤ a
+  sign : bit (w - 1) a ≡ 1
+  raised-is : raised w a ≡ a - half w
+
+side : (w a : ℕ) → 0 < w → a < 2 ^ w → Low w a ⊎ High w a
+side w a p h = go (ltb a (half w)) refl
+  where
+    whole : half w + half w ≡ 2 ^ w
+    whole = halved w p
+
+    go : (t : Bool) → ltb a (half w) ≡ t → Low w a ⊎ High w a
+    go true e =
+        let l : a < half w = ltb-true a (half w) e in
+        inl (record { small = l; sign = ap (λ n. n % 2) (div-eq-of-lt l); raised-is = mod-eq-of-lt (omega (arith, whole)) })
+    go false e =
+        let l : half w ≤ a = ltb-false a (half w) e in
+        let one : a ≡ 1 * half w + (a - half w) = omega arith in
+        let round : a + half w ≡ 1 * 2 ^ w + (a - half w) = omega (arith, whole) in
+        inr (record {
+          large = l;
+          sign = ap (λ n. n / half w % 2) one ∙ ap (λ n. n % 2) (digits-div 1 (omega (arith, whole)));
+          raised-is = ap (λ n. n % 2 ^ w) round ∙ digits-mod 1 (omega arith);
+        })
+
+module _ (w a b : ℕ) (p : 0 < w) (h : a < 2 ^ w) (k : b < 2 ^ w) where
+  pub slt-same-sign : bit (w - 1) a ≡ bit (w - 1) b → binary w Slt a b ≡ binary w Ult a b
+  unfolding binary
+  slt-same-sign q = slt-raised w a b p h k ∙ ap test (go (side w a p h) (side w b p k))
+    where
+      go : Low w a ⊎ High w a → Low w b ⊎ High w b → ltb (raised w a) (raised w b) ≡ ltb a b
+      go (inl x) (inl y) = same-ltb (raised w a) (raised w b) a b (λ l. omega arith) (λ l. omega arith)
+      go (inl x) (inr y) = absurd (omega arith)
+      go (inr x) (inl y) = absurd (omega arith)
+      go (inr x) (inr y) = same-ltb (raised w a) (raised w b) a b (λ l. omega arith) (λ l. omega arith)
+
+  pub slt-other-sign : bit (w - 1) a ≢ bit (w - 1) b → binary w Slt a b ≡ bit (w - 1) a
+  slt-other-sign q = slt-raised w a b p h k ∙ go (side w a p h) (side w b p k)
+    where
+      go : Low w a ⊎ High w a → Low w b ⊎ High w b → test (ltb (raised w a) (raised w b)) ≡ bit (w - 1) a
+      go (inl x) (inl y) = absurd (omega arith)
+      go (inl x) (inr y) = ap test (le-ltb (raised w a) (raised w b) (omega (arith, halved w p))) ∙ sym (x .sign)
+      go (inr x) (inl y) = ap test (lt-ltb (raised w a) (raised w b) (omega (arith, halved w p))) ∙ sym (x .sign)
+      go (inr x) (inr y) = absurd (omega arith)
 
 -- ---- ite: b if c is 0, else a
 

@@ -132,7 +132,7 @@ not-bit w i a h l =
 abbrev pub raised : (w a : ℕ) → ℕ
 raised w a = (a + 2 ^ (w - 1)) % 2 ^ w
 
-same-ltb : (x y u v : ℕ) → (x < y → u < v) → (y ≤ x → v ≤ u) → ltb x y ≡ ltb u v
+pub same-ltb : (x y u v : ℕ) → (x < y → u < v) → (y ≤ x → v ≤ u) → ltb x y ≡ ltb u v
 same-ltb x y u v f g = go (ltb x y) refl
   where
     go : (t : Bool) → ltb x y ≡ t → t ≡ ltb u v
@@ -166,7 +166,7 @@ module _ (h a b : ℕ) (p : a < h + h) (q : b < h + h) where
           rw (high a (ltb-false a h d) p, high b (ltb-false b h e) q, negative a p, negative b q)
           (same-ltb (h + h - suc b) (h + h - suc a) (a - h) (b - h) (λ l. omega (arith, ltb-false a h d, ltb-false b h e)) (λ l. omega (arith, ltb-false a h d, ltb-false b h e)))
 
-halved : (w : ℕ) → 0 < w → 2 ^ (w - 1) + 2 ^ (w - 1) ≡ 2 ^ w
+pub halved : (w : ℕ) → 0 < w → 2 ^ (w - 1) + 2 ^ (w - 1) ≡ 2 ^ w
 halved zero h = absurd (omega arith)
 halved (suc k) h = ap (λ n. 2 ^ n + 2 ^ n) (sub-one (suc k)) ∙ (let e : 2 ^ k + 2 ^ k ≡ 2 ^ suc k = omega (arith, pow-suc 2 k) in e)
 
