@@ -1,5 +1,6 @@
 -- Document 01, "Numbered replies": the answer to running, for every input.
 use Prim.Native.Nat.{ℕ}
+use mathlib.Core.Path.{_≡_}
 use mathlib.Core.Bool.{cond}
 use mathlib.Core.List.{List}
 use lib.ListN.{length}
@@ -24,3 +25,8 @@ answered K words (Accepted S is) = cond (leb K 255) (cond (eqb (length words) S)
 
 unfoldable pub runAnswer : (table : List ℕ) (K : ℕ) (words : List ℕ) → Answer
 runAnswer table K words = answered K words (readTable table)
+
+-- ---- what the call answers
+
+pub record RunAnswered (table : List ℕ) (K : ℕ) (words : List ℕ) (r : Answer) : Type 0 where
+  pub answer : r ≡ runAnswer table K words

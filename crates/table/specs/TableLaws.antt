@@ -16,7 +16,7 @@ use Rattle.expr.specs.Expr.{below, Whole, parse}
 use Rattle.expr.specs.TokenLaws.{Holds}
 use Rattle.expr.specs.ExprLaws.{Ok, parse-accepted, parse-more}
 use Rattle.file.specs.Outcome.{Assume, Assert}
-use Rattle.file.specs.File.{headerCount, Body, Good, Bad, field, frame, Read, recordOf, Accepted, Refused}
+use Rattle.file.specs.File.{headerInputs, headerCount, Body, Good, Bad, field, frame, Read, recordOf, Accepted, Refused}
 use Rattle.file.specs.Shown.{offsetsFrom}
 use Rattle.file.specs.FileLaws.{Low, holding-low, cond-low, framed, record-framed, record-good, next-record, Chain, records-chain, header-is, file-is, file-refused-positive, field-there, field-good, rule-good, holding-good}
 use Rattle.table.specs.Table.{Instr, Assign, Test, IfThenGoto, assign, test, ifThenGoto, instr, instrsFrom, instrs, readTable}
@@ -226,3 +226,10 @@ record-more S T n bs x h g =
     let l = length-take-le (frame bs) (drop 2 bs) (omega (arith, f .inside, length-drop 2 bs)) in
     let body = take (frame bs) (drop 2 bs) in
     record-framed (instr T n) bs (k .0) ∙ said T n body x (says-more S T n body x h (says S n body (omega (arith, l, k .0)) x (k .1)))
+
+-- ---- the header
+
+-- an accepted file's inputs are its header's
+pub table-inputs : (t : List ℕ) (S : ℕ) (is : List Instr) → readTable t ≡ Accepted S is → headerInputs t ≡ S
+unfolding readTable
+table-inputs t S is q = file-is 1 1024 instrs t S is q .inputs

@@ -2,8 +2,7 @@
 pub mod read;
 mod steps;
 
-ghost use mathlib.Core.Path.{_≡_};
-ghost use Rattle.table.specs.Answer.{runAnswer};
+ghost use Rattle.table.specs.Answer.{RunAnswered};
 
 // Document 01's answer to running: a reply and its offset, 0 safe or 1 unsafe with its place, the back jumps taken.
 pub struct Answer {
@@ -16,7 +15,7 @@ pub struct Answer {
 
 // Runs a table under a bound, from a valuation of its inputs.
 pub fn run(table: &[u8], bound: u64, words: &[u32]) -> Answer
-    ensures { λ r. ⌜ r ≡ runAnswer (now (table .entry)) bound (now (words .entry)) ⌝ }
+    ensures { λ r. ⌜ RunAnswered (now (table .entry)) bound (now (words .entry)) r ⌝ }
 {
     let mut offsets: [u16; 1024] = [0; 1024];
     let t = read::read_table(table, &mut offsets);

@@ -1,5 +1,6 @@
 -- Document 01, "Numbered replies": the answer to judging, for every input.
 use Prim.Native.Nat.{ℕ}
+use mathlib.Core.Path.{_≡_}
 use mathlib.Core.Bool.{cond}
 use mathlib.Core.List.{List}
 use lib.ListN.{length}
@@ -25,3 +26,8 @@ answered words (Accepted S ts) = cond (eqb (length words) S) (answerOf (judge ts
 
 unfoldable pub judgeAnswer : (trace words : List ℕ) → Answer
 judgeAnswer trace words = answered words (readTrace trace)
+
+-- ---- what the call answers
+
+pub record JudgeAnswered (trace words : List ℕ) (r : Answer) : Type 0 where
+  pub answer : r ≡ judgeAnswer trace words

@@ -15,10 +15,10 @@ use Rattle.expr.specs.Token.{Token}
 use Rattle.expr.specs.Expr.{readable, Whole, parse}
 use Rattle.expr.specs.ExprLaws.{parse-more}
 use Rattle.file.specs.Outcome.{Kind, Assume, Assert}
-use Rattle.file.specs.File.{Body, Good, Bad, field, frame, Read, recordOf}
+use Rattle.file.specs.File.{headerInputs, Body, Good, Bad, field, frame, Read, recordOf, Accepted}
 use Rattle.file.specs.Shown.{offsetsFrom}
-use Rattle.file.specs.FileLaws.{Low, holding-low, cond-low, framed, record-framed, record-good, next-record, records-chain, field-there, field-good, rule-good, holding-good}
-use Rattle.trace.specs.Trace.{Stmt, Assign, Test, Seen, see, assign, assignAt, testAt, stmt, stmtsFrom}
+use Rattle.file.specs.FileLaws.{Low, holding-low, cond-low, framed, record-framed, record-good, next-record, records-chain, file-is, field-there, field-good, rule-good, holding-good}
+use Rattle.trace.specs.Trace.{Stmt, Assign, Test, Seen, see, assign, assignAt, testAt, stmt, stmtsFrom, stmts, readTrace}
 use Rattle.trace.specs.Shown.{loose}
 
 -- ---- a record by its kind
@@ -195,3 +195,10 @@ stmt-at s S (suc c) at σ w ts h (suc i) x xs d =
     let l = 2 + frame (drop at s) in
     ap (λ bs. recordOf (stmt 4160 loose) (drop (getD (offsetsFrom c (at + l) bs) i 0) s)) (drop-drop l at s)
     ∙ stmt-at s S c (at + l) (see σ (k .head)) (wider-after (S + 4096) σ w (drop at s) (k .head) (k .good)) (k .tail) (k .on) i x xs (sym (ap (drop (suc i)) (k .is)) ∙ d)
+
+-- ---- the header
+
+-- an accepted file's inputs are its header's
+pub trace-inputs : (t : List ℕ) (S : ℕ) (ts : List Stmt) → readTrace t ≡ Accepted S ts → headerInputs t ≡ S
+unfolding readTrace
+trace-inputs t S ts q = file-is 129 4096 stmts t S ts q .inputs

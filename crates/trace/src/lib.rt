@@ -2,8 +2,7 @@
 pub mod read;
 mod steps;
 
-ghost use mathlib.Core.Path.{_≡_};
-ghost use Rattle.trace.specs.Answer.{judgeAnswer};
+ghost use Rattle.trace.specs.Answer.{JudgeAnswered};
 
 // Document 01's answer to judging: a reply and its offset, 0 safe or 1 unsafe with its place.
 pub struct Answer {
@@ -15,7 +14,7 @@ pub struct Answer {
 
 // Judges a trace, from a valuation of its inputs.
 pub fn judge(trace: &[u8], words: &[u32]) -> Answer
-    ensures { λ r. ⌜ r ≡ judgeAnswer (now (trace .entry)) (now (words .entry)) ⌝ }
+    ensures { λ r. ⌜ JudgeAnswered (now (trace .entry)) (now (words .entry)) r ⌝ }
 {
     let mut offsets: [u16; 4096] = [0; 4096];
     let t = read::read_trace(trace, &mut offsets);

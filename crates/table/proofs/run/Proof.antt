@@ -37,7 +37,7 @@ refused-requires : tie.Need-refused-requires
 refused-requires c κs = search needs
 
 returns : tie.Need-returns
-returns c = c .refused .ensures ∙ table-refuses _ _ _ _ _ (reply-refuses (c .before .before .before .before .read-table .ensures) (c .before .before .if1 .taken))
+returns c = record { answer = c .refused .ensures ∙ table-refuses _ _ _ _ _ (reply-refuses (c .before .before .before .before .read-table .ensures) (c .before .before .if1 .taken)) }
 
 refused-requires-2 : tie.Need-refused-requires-2
 refused-requires-2 c κs = search needs
@@ -63,7 +63,7 @@ module _ (c : tie.Else1) where
   count-is = ready .count ∙ sym (many (c .before .before .read-table .ensures) (c .if1 .left))
 
 returns-2 : tie.Need-returns-2
-returns-2 c = c .refused2 .ensures ∙ bound-refused _ _ _ _ _ (accepted (c .before .before)) (c .before .if2 .taken)
+returns-2 c = record { answer = c .refused2 .ensures ∙ bound-refused _ _ _ _ _ (accepted (c .before .before)) (c .before .if2 .taken) }
 
 shared-slice-read-if3 : tie.Need-shared-slice-read-if3
 shared-slice-read-if3 c = omega (arith, head (c .before .before) .long)
@@ -75,7 +75,7 @@ refused-requires-3 : tie.Need-refused-requires-3
 refused-requires-3 c κs = search needs
 
 returns-3 : tie.Need-returns-3
-returns-3 c = c .refused3 .ensures ∙ valuation-refused _ _ _ _ _ (accepted (c .before .before .before .before)) (c .before .before .before .if2 .left) (c .before .if3 .taken)
+returns-3 c = record { answer = c .refused3 .ensures ∙ valuation-refused _ _ _ _ _ (accepted (c .before .before .before .before)) (c .before .before .before .if2 .left) (c .before .if3 .taken) }
 
 slice-aggregate-copy-words : tie.Need-slice-aggregate-copy-words
 slice-aggregate-copy-words c = search needs
@@ -99,9 +99,12 @@ returns-4 : tie.Need-returns-4
 returns-4 c =
     let a = c .before .before .before .before .before .before .before .before .before .before in
     let words = c .before .before .before .before .before .before .before .before .before .before .before .before .before .before .before .before .args .words .now in
-    c .before .run-from .ensures
-    ∙ ran _ _ _ _ _ (accepted a) (c .before .before .before .before .before .before .before .before .before .if2 .left) (c .before .before .before .before .before .before .before .if3 .left) _ (count-is a) (c .before .before .before .before .before .copy-words .last .1 .0)
-    (ap envOf (c .before .before .before .before .before .copy-words .ensures) ∙ copy-env 64 words (omega (arith, c .before .before .before .before .before .before .before .if3 .left, head a .inputs)))
+    record {
+      answer =
+          c .before .run-from .ensures
+          ∙ ran _ _ _ _ _ (accepted a) (c .before .before .before .before .before .before .before .before .before .if2 .left) (c .before .before .before .before .before .before .before .if3 .left) _ (count-is a) (c .before .before .before .before .before .copy-words .last .1 .0)
+          (ap envOf (c .before .before .before .before .before .copy-words .ensures) ∙ copy-env 64 words (omega (arith, c .before .before .before .before .before .before .before .if3 .left, head a .inputs)));
+    }
 
 pub run-spec : {M : Type 1} → statement M
 run-spec =

@@ -36,7 +36,7 @@ refused-requires : tie.Need-refused-requires
 refused-requires c κs = search needs
 
 returns : tie.Need-returns
-returns c = c .refused .ensures ∙ trace-refuses _ _ _ _ (reply-refuses (c .before .before .before .before .read-trace .ensures) (c .before .before .if1 .taken))
+returns c = record { answer = c .refused .ensures ∙ trace-refuses _ _ _ _ (reply-refuses (c .before .before .before .before .read-trace .ensures) (c .before .before .if1 .taken)) }
 
 -- the trace is accepted
 module _ (c : tie.Else1) where
@@ -59,7 +59,7 @@ refused-requires-2 : tie.Need-refused-requires-2
 refused-requires-2 c κs = search needs
 
 returns-2 : tie.Need-returns-2
-returns-2 c = c .refused2 .ensures ∙ valuation-refused _ _ _ _ (accepted (c .before .before .before)) (c .before .if2 .taken)
+returns-2 c = record { answer = c .refused2 .ensures ∙ valuation-refused _ _ _ _ (accepted (c .before .before .before)) (c .before .if2 .taken) }
 
 slice-aggregate-copy-words : tie.Need-slice-aggregate-copy-words
 slice-aggregate-copy-words c = search needs
@@ -83,9 +83,12 @@ returns-3 : tie.Need-returns-3
 returns-3 c =
     let a = c .before .before .before .before .before .before .before .before .before in
     let words = c .before .before .before .before .before .before .before .before .before .before .before .before .before .before .before .args .words .now in
-    c .before .judge-from .ensures
-    ∙ judged _ _ _ _ (accepted a) (c .before .before .before .before .before .before .before .if2 .left) (c .before .before .before .before .before .copy-words .last .1 .0)
-    (ap envOf (c .before .before .before .before .before .copy-words .ensures) ∙ copy-env 4160 words (omega (arith, c .before .before .before .before .before .before .before .if2 .left, head a .inputs)))
+    record {
+      answer =
+          c .before .judge-from .ensures
+          ∙ judged _ _ _ _ (accepted a) (c .before .before .before .before .before .before .before .if2 .left) (c .before .before .before .before .before .copy-words .last .1 .0)
+          (ap envOf (c .before .before .before .before .before .copy-words .ensures) ∙ copy-env 4160 words (omega (arith, c .before .before .before .before .before .before .before .if2 .left, head a .inputs)));
+    }
 
 pub judge-spec : {M : Type 1} → statement M
 judge-spec =
