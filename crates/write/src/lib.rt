@@ -1,7 +1,8 @@
 // Numbers, a trace's tokens and headers, written into a lent buffer. Each writer gives the next place.
 ghost use mathlib.Core.List.{[], _∷_};
-ghost use Prim.Native.Nat.{_+_, _≤_, _<_};
-ghost use lib.ListN.{length};
+ghost use mathlib.Core.Path.{_≡_};
+ghost use Prim.Native.Nat.{_+_, _^_, _≤_, _<_};
+ghost use lib.ListN.{length, set};
 ghost use Rattle.expr.specs.declared.File.the-variants.{Trace};
 ghost use Rattle.expr.specs.Number.{bytesOf};
 ghost use Rattle.expr.specs.Token.{Const, Symbol, tokenBytes};
@@ -72,6 +73,39 @@ pub fn put_part(part: &[u8], out: &mut [u8], at: usize) -> usize
     let mut i: usize = 0;
     while i < part.len() {
         out[at + i] = part[i];
+        i += 1;
+    }
+    at + i
+}
+
+// ---- writers that ask for no room: what does not fit is not stored, and the next place is counted all the same. So a text is measured by
+// writing it into one byte.
+
+// A byte, where there is a place for it.
+pub fn store(b: u8, out: &mut [u8], at: usize)
+    ensures { λ _. ⌜ now (out .exit) ≡ set (now (out .entry)) at b ⌝ }
+{
+    if at < out.len() {
+        out[at] = b;
+    }
+}
+
+pub fn fit_byte(b: u8, out: &mut [u8], at: usize) -> usize
+    requires { ⌜ at + 1 < 2 ^ 64 ⌝ }
+    ensures { λ r. ⌜ Wrote (now (out .entry)) at (b ∷ []) (now (out .exit)) r ⌝ }
+{
+    store(b, out, at);
+    at + 1
+}
+
+pub fn fit_part(part: &[u8], out: &mut [u8], at: usize) -> usize
+    requires { ⌜ at + length (now part) < 2 ^ 64 ⌝ }
+    ensures { λ r. ⌜ Wrote (now (out .entry)) at (now (part .entry)) (now (out .exit)) r ⌝ }
+{
+    let mut i: usize = 0;
+    while i < part.len() {
+        let b = part[i];
+        store(b, &mut *out, at + i);
         i += 1;
     }
     at + i
