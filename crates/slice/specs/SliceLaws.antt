@@ -231,14 +231,19 @@ encode-length S ts = omega arith
 pub slice-fits : (S : ℕ) (ts : List Stmt) → length (encodeTrace S (slice ts)) ≤ length (encodeTrace S ts)
 slice-fits S ts = omega (arith, encode-length S ts, encode-length S (slice ts), slice-smaller ts)
 
+-- the slice of a well-formed trace within the limits, written and read again, is itself
+pub slice-read : (S : ℕ) (ts : List Stmt) → S ≤ 64 → length ts ≤ 4096 → length (encodeTrace S ts) ≤ 65535 → StmtsOk S (atFirst S) ts
+    → readTrace (encodeTrace S (slice ts)) ≡ Accepted S (slice ts)
+slice-read S ts few count total o =
+    read-encode S (slice ts) few (omega (arith, slice-shorter ts)) (omega (arith, slice-smaller ts, encode-length S ts)) (slice-ok S ts o)
+
 pub slice-accepted : (s : List ℕ) (S : ℕ) (ts : List Stmt) → All Byte s → readTrace s ≡ Accepted S ts
     → readTrace (encodeTrace S (slice ts)) ≡ Accepted S (slice ts)
 unfolding readTrace
 slice-accepted s S ts o h =
     let t = trace-ok s S ts o h in
     let few : length s < 65536 = short 129 4096 s o (file-is 129 4096 stmts s S ts h .header) in
-    let total : length s ≡ 6 + length (recordsBytes stmtBytes ts) = sym (ap length (encode-read s S ts o h)) ∙ encode-length S ts in
-    read-encode S (slice ts) (t .inputs) (omega (arith, t .few, slice-shorter ts)) (omega (arith, slice-smaller ts)) (slice-ok S ts (t .ok))
+    slice-read S ts (t .inputs) (t .few) (omega (arith, ap length (encode-read s S ts o h))) (t .ok)
 
 -- where it fits, nothing is refused
 pub slice-done : (s : List ℕ) (S : ℕ) (ts : List Stmt) (room : ℕ) → readTrace s ≡ Accepted S ts → length (encodeTrace S (slice ts)) ≤ room
