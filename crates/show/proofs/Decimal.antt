@@ -122,16 +122,3 @@ module _ {v : ℕ} {out₀ : List ℕ} {at k : ℕ} {out : List ℕ} {i rest : �
     buffer = sym (splice-nil at out) ∙ ap (λ n. splice at (lastDigits n rest) out) (sym z) ∙ s .buffer ∙ ap (λ ds. splice at ds out₀) (sym (decimal-is v k e));
     next = omega (arith, ap length (decimal-is v k e), length-digits k v);
   }
-
--- ---- two digits
-
-one-digit : (k n : ℕ) → n < 10 → length (decimalUpTo (suc k) n) ≤ 1
-one-digit k n h = rw (lt-ltb n 10 h) (omega arith)
-
-pub two-digits : (n : ℕ) → n < 100 → length (decimal n) ≤ 2
-unfolding decimal
-two-digits n h = go (ltb n 10) (one-digit 8 (n / 10) (omega arith))
-  where
-    go : (x : Bool) → length (decimalUpTo 9 (n / 10)) ≤ 1 → length (cond x ((48 + n) ∷ []) (decimalUpTo 9 (n / 10) ++ (48 + n % 10) ∷ [])) ≤ 2
-    go true l = omega arith
-    go false l = omega (arith, length-append (decimalUpTo 9 (n / 10)) ((48 + n % 10) ∷ []))

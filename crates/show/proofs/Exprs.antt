@@ -1,6 +1,6 @@
 -- The text of a trace's expression: what the token at a place is and its text, by its code, and the loop that writes the tokens. No token has more letters
 -- than six for each of its bytes.
-use Prim.Native.Nat.{ℕ, _+_, _*_, _≤_, _<_}
+use Prim.Native.Nat.{ℕ, _+_, _*_, _^_, _≤_, _<_}
 use native.Mathlib.Omega.{arith}
 use mathlib.Core.Path.{_≡_, refl, sym, ap, _∙_}
 use mathlib.Core.Bool.{true}
@@ -15,7 +15,7 @@ use Rattle.expr.specs.Shown.{turned, goes, isWhole, tokensOf, sizeOf, Stands}
 use Rattle.expr.proofs.Steps.{Constant, Reads, Operator, constant-stands, symbol-stands, operator-stands}
 use Rattle.expr.proofs.Rests.{Rest, tokens, rest-start, turn, rest-end}
 use Rattle.write.specs.Splice.{Wrote}
-use Rattle.write.specs.SpliceLaws.{wrote-as, Ahead, ahead-start, ahead-step, ahead-end, ahead-length}
+use Rattle.write.specs.SpliceLaws.{wrote-as, Ahead, ahead-start, ahead-step, ahead-end}
 use Rattle.show.specs.Ascii.{ascii}
 use Rattle.show.specs.Text.{decimal, exprText}
 use Rattle.show.specs.Shown.{textOf, nameOf, readText}
@@ -81,9 +81,9 @@ putting-start e out at h = record { rest = rest-start Trace 4160 e h; wrote = ah
 
 module _ {e out₀ : List ℕ} {at : ℕ} {out : List ℕ} {i to : ℕ} (v : Putting e out₀ at out i to) where
   module _ (h : i < length e) where
-    -- there is room for the token
-    pub putting-room : at + 6 * length e ≤ length out₀ → to + 6 * sizeOf Trace (readToken Trace (drop i e)) ≤ length out
-    putting-room r = omega (arith, r, v .little, ahead-length (v .wrote), turn (v .rest) h (sizeOf Trace (readToken Trace (drop i e))) refl .then .inside)
+    -- the letters of the token can be counted
+    pub putting-room : at + 6 * length e < 2 ^ 64 → to + 6 * sizeOf Trace (readToken Trace (drop i e)) < 2 ^ 64
+    putting-room r = omega (arith, r, v .little, turn (v .rest) h (sizeOf Trace (readToken Trace (drop i e))) refl .then .inside)
 
     pub record PutOn (out′ : List ℕ) (m to′ : ℕ) : Type 0 where
       pub some-byte : 1 ≤ m

@@ -1,6 +1,6 @@
 -- The line of the record at an offset, by its kind, and the loop over the records: what is written and the lines of the statements that are left make all
 -- the lines. No line has more letters than six for each of its record's bytes.
-use Prim.Native.Nat.{ℕ, suc, _+_, _-_, _*_, _≤_, _<_}
+use Prim.Native.Nat.{ℕ, suc, _+_, _-_, _*_, _^_, _≤_, _<_}
 use native.Mathlib.Omega.{arith}
 use mathlib.Core.Path.{_≡_, refl, sym, ap, ap₂, _∙_, subst}
 use mathlib.Core.Bool.{Bool, true, false, cond}
@@ -25,7 +25,7 @@ use Rattle.file.specs.RecordLaws.{rest-length}
 use Rattle.trace.proofs.Held.{Held, held-at}
 use Rattle.trace.proofs.Moves.{expr-whole}
 use Rattle.write.specs.Splice.{Wrote}
-use Rattle.write.specs.SpliceLaws.{Ahead, ahead-start, ahead-step, ahead-end, ahead-length}
+use Rattle.write.specs.SpliceLaws.{Ahead, ahead-start, ahead-step, ahead-end}
 use Rattle.show.specs.Ascii.{ascii}
 use Rattle.show.specs.Text.{firstLine, decimal, kindName, exprText, stmtLines, traceText}
 use Rattle.show.specs.Shown.{lineIn}
@@ -126,8 +126,9 @@ module _ {s : List ℕ} {n : ℕ} {out₀ : List ℕ} {to : ℕ} {out : List ℕ
     pub listing-inside : at + (2 + numberOf 2 (drop at s)) ≤ length s
     listing-inside = held-at 4160 loose s at listing-good .whole
 
-    pub listing-room : 393210 ≤ length out₀ → next + 6 * (2 + numberOf 2 (drop at s)) ≤ length out
-    listing-room r = omega (arith, v .little, v .few, listing-inside, ahead-length (v .wrote))
+    -- the letters of the line can be counted
+    pub listing-room : next + 6 * (2 + numberOf 2 (drop at s)) < 2 ^ 64
+    listing-room = omega (arith, v .little, v .few, listing-inside)
 
     pub listing-on : {out′ : List ℕ} {next′ : ℕ} → Wrote out next (lineIn (held (drop at s))) out′ next′ × (next′ ≤ next + 6 * (2 + numberOf 2 (drop at s)))
         → (len : ℕ) → len ≡ numberOf 2 (drop at s) → Listing s n out₀ to out′ (k + 1) (at + (2 + len)) next′

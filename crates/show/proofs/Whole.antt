@@ -2,8 +2,8 @@
 -- and the first bytes of a buffer, as many as were written, are those that were written.
 use Prim.Native.Nat.{ℕ, _≤_, _<_}
 use native.Mathlib.Omega.{arith}
-use mathlib.Core.Path.{_≡_, refl, sym, ap, _∙_}
-use mathlib.Core.Bool.{true, false, cond}
+use mathlib.Core.Path.{_≡_, refl, sym, ap, _∙_, subst}
+use mathlib.Core.Bool.{Bool, true, false, cond}
 use mathlib.Core.List.{List, [], _∷_}
 use lib.ListN.{length, take, drop, getD, length-append}
 use lib.Seq.{take-append-seam}
@@ -23,7 +23,9 @@ use Rattle.slice.specs.Slice.{slice}
 use Rattle.slice.specs.SliceLaws.{slice-fits, slice-accepted, slice-done}
 use Rattle.slice.specs.Answer.{sliceOf, sliceAnswer}
 use Rattle.show.specs.Text.{refusalText, traceText, slicedText, tracedText, printed}
-use Rattle.show.specs.Answer.{largest, Shown}
+use Rattle.show.specs.declared.Answer.{Answer}
+use Rattle.show.specs.Answer.{Shown, refusal, showAnswer, numbers, SliceShown}
+use Rattle.show.specs.Shown.{Fitted}
 
 -- ---- a result in a buffer
 
@@ -98,23 +100,32 @@ printed-none (K ∷ b) h = absurd (omega arith)
 
 -- ---- the answer
 
-pub too-small : (input out : List ℕ) → length out < largest → Shown input out out 0
-too-small input out h =
-    let f : leb largest (length out) ≡ false = lt-leb largest (length out) h in
-    record {
-      answer = sym (ap (λ b. cond b (length (printed input)) 0) f);
-      buffer = sym (ap (λ b. cond b (over (printed input) out) out) f);
-      fits = λ l. absurd (omega arith);
-    }
+-- a text that was measured by writing it into another buffer
+module _ {text one one′ : List ℕ} {size : ℕ} (m : Wrote one 0 text one′ size) (out : List ℕ) where
+  -- the answer, by the test of the room
+  abbrev tested : Bool → Shown
+  tested b = cond b (record { reply = 0; offset = 0; bytes = text }) (refusal 10 0)
 
-pub shown : (input out : List ℕ) {text out′ : List ℕ} {r : ℕ} → largest ≤ length out → printed input ≡ text → Wrote out 0 text out′ r → r ≤ largest → Shown input out out′ r
-shown input out {text} {out′} {r} h e w m =
-    let t : leb largest (length out) ≡ true = le-leb largest (length out) h in
-    let n : r ≡ length (printed input) = w .next ∙ omega arith ∙ sym (ap length e) in
-    record {
-      answer = n ∙ sym (ap (λ b. cond b (length (printed input)) 0) t);
-      buffer =
-          w .buffer ∙ splice-over text out (omega (arith, w .next)) ∙ ap (λ bs. over bs out) (sym e)
-          ∙ sym (ap (λ b. cond b (over (printed input) out) out) t);
-      fits = λ l. omega arith;
-    }
+  size-is : size ≡ length text
+  size-is = m .next ∙ omega arith
+
+  pub no-room : {r : Answer} → length out < size → r ≡ numbers (refusal 10 0) → Fitted text out out r
+  no-room {r} h e =
+      let f : leb (length text) (length out) ≡ false = lt-leb (length text) (length out) (omega (arith, size-is)) in
+      record { answer = e ∙ sym (ap (λ b. numbers (tested b)) f); buffer = sym (ap (λ b. over ((tested b) .bytes) out) f) }
+
+  pub written : {out′ : List ℕ} {n : ℕ} → size ≤ length out → Wrote out 0 text out′ n → Fitted text out out′ (record { reply = 0; offset = 0; length = n })
+  written {out′} {n} h w =
+      let t : leb (length text) (length out) ≡ true = le-leb (length text) (length out) (omega (arith, size-is)) in
+      let q : n ≡ length text = w .next ∙ omega arith in
+      record {
+        answer = ap (λ k. record { reply = 0; offset = 0; length = k }) q ∙ sym (ap (λ b. numbers (tested b)) t);
+        buffer = w .buffer ∙ splice-over text out (omega (arith, size-is)) ∙ sym (ap (λ b. over ((tested b) .bytes) out) t);
+      }
+
+pub fitted-as : {text other out out′ : List ℕ} {r : Answer} → text ≡ other → Fitted text out out′ r → Fitted other out out′ r
+fitted-as {out = out} {out′} {r} e f = subst (λ t. Fitted t out out′ r) e f
+
+pub shown : {input out out′ : List ℕ} {r : Answer} → Fitted (printed input) out out′ r → SliceShown input out out′ r
+unfolding showAnswer
+shown f = record { answer = f .answer; buffer = f .buffer }

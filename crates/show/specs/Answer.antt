@@ -1,19 +1,34 @@
--- The answer of the printer's one public call, for every input: how many bytes the text has, and what the buffer holds then.
-use Prim.Native.Nat.{ℕ, _≤_}
+-- The answer of the printer's one public call, for every input: the whole text, or refusal 10 where the buffer is shorter than the text.
+use Prim.Native.Nat.{ℕ}
 use mathlib.Core.Path.{_≡_}
 use mathlib.Core.Bool.{cond}
-use mathlib.Core.List.{List}
+use mathlib.Core.List.{List, []}
 use lib.ListN.{length}
 use lib.Dec.{leb}
 use Rattle.write.specs.Splice.{over}
+use Rattle.show.specs.declared.Answer.{Answer}
 use Rattle.show.specs.Text.{printed}
 
--- six letters for each of a slice's 65,535 bytes; a smaller buffer is left as it is
-abbrev pub largest : ℕ
-largest = 393210
+-- the text is written from the buffer's first byte on, and the length answered is its
+pub record Shown : Type 0 where
+  pub reply : ℕ
+  pub offset : ℕ
+  pub bytes : List ℕ
 
-pub record Shown (input out out′ : List ℕ) (r : ℕ) : Type 0 where
-  pub answer : r ≡ cond (leb largest (length out)) (length (printed input)) 0
-  pub buffer : out′ ≡ cond (leb largest (length out)) (over (printed input) out) out
-  -- such a buffer holds every text
-  pub fits : largest ≤ length out → length (printed input) ≤ largest
+abbrev pub refusal : (reply offset : ℕ) → Shown
+refusal reply offset = record { reply = reply; offset = offset; bytes = [] }
+
+abbrev pub fitting : (room : ℕ) (text : List ℕ) → Shown
+fitting room text = cond (leb (length text) room) (record { reply = 0; offset = 0; bytes = text }) (refusal 10 0)
+
+unfoldable pub showAnswer : (input : List ℕ) (room : ℕ) → Shown
+showAnswer input room = fitting room (printed input)
+
+-- ---- what the call answers and leaves in the buffer
+
+abbrev pub numbers : Shown → Answer
+numbers q = record { reply = q .reply; offset = q .offset; length = length (q .bytes) }
+
+pub record SliceShown (input out out′ : List ℕ) (r : Answer) : Type 0 where
+  pub answer : r ≡ numbers (showAnswer input (length out))
+  pub buffer : out′ ≡ over ((showAnswer input (length out)) .bytes) out

@@ -15,12 +15,25 @@ use Rattle.slice.specs.Slice.{slice}
 use Rattle.slice.specs.Answer.{sliceAnswer}
 use Rattle.show.specs.Ascii.{ascii}
 use Rattle.show.specs.Text.{decimal, exprText, printed}
+use Rattle.show.specs.Answer.{refusal, showAnswer}
 
 -- the whole output for K = 0 and the small rule
 pub small : printed (0 ∷ smallRule) ≡ ascii "inputs 1 statements 4\n65535 assign s1 0\n0 assign s2 s1 0 ule s0 zero 3 s1 ite s1 ite\n2 assume s2 2 ule 1 zero 1 ite\n3 assert s2 3 ule 0 1 ite\n"
 unfolding printed decimal traceAnswer sliceAnswer readTable readFile headerReply records recordOf frame instr parseFrom readToken operator fits unwind places encode
     readTrace stmt slice
 small = refl
+
+-- and for K = 1: nine of its eleven statements are kept
+with-a-back-jump : printed (1 ∷ smallRule)
+    ≡ ascii "inputs 1 statements 9\n65535 assign s1 0\n0 assign s2 s1 0 ule s0 zero 3 s1 ite s1 ite\n1 assign s3 s2 1 ule s0 1 sub s0 ite\n2 assign s4 s2 2 ule 1 5 s2 ite s2 ite\n3 assert s4 3 ule 0 1 ite\n4 assign s5 s4 4 ule 10 s4 ite\n5 assign s6 s5 5 ule s3 zero 8 s5 ite s5 ite\n7 assume s6 7 ule 1 zero 1 ite\n8 assert s6 8 ule 0 1 ite\n"
+unfolding printed decimal traceAnswer sliceAnswer readTable readFile headerReply records recordOf frame instr parseFrom readToken operator fits unwind places encode
+    readTrace stmt slice
+with-a-back-jump = refl
+
+-- a buffer as long as the text gets it, one that is a byte shorter is refused 10
+rooms : (showAnswer [] 15 ≡ record { reply = 0; offset = 0; bytes = ascii "refused 1 at 0\n" }) × (showAnswer [] 14 ≡ refusal 10 0) × (showAnswer [] 0 ≡ refusal 10 0)
+unfolding showAnswer printed decimal
+rooms = (refl, refl, refl)
 
 -- no K; no table; a wrong version; a table whose length is not the field's; spare bytes
 refusals : (printed [] ≡ ascii "refused 1 at 0\n") × (printed (0 ∷ []) ≡ ascii "refused 1 at 0\n")

@@ -2,6 +2,7 @@
 pub mod Ascii
 pub mod Text
 pub mod TextLaws
+pub mod SizeLaws
 pub mod Answer
 pub mod AnswerLaws
 pub mod Cases

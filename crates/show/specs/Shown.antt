@@ -1,14 +1,19 @@
 -- What the code's values mean: its answers as functions of the definitions.
 use Prim.Native.Nat.{ℕ, zero, suc, _/_}
+use mathlib.Core.Path.{_≡_}
 use mathlib.Core.Bool.{cond}
 use mathlib.Core.Option.{Option, none, some}
 use mathlib.Core.List.{List, [], _++_}
+use lib.ListN.{length}
 use lib.Dec.{ltb}
 use Rattle.expr.specs.Token.{Token, operator}
 use Rattle.file.specs.File.{Body, Good, Bad}
 use Rattle.trace.specs.Trace.{Stmt}
+use Rattle.write.specs.Splice.{over}
+use Rattle.show.specs.declared.Answer.{Answer}
 use Rattle.show.specs.Ascii.{ascii}
 use Rattle.show.specs.Text.{tokenText, stmtLine}
+use Rattle.show.specs.Answer.{fitting, numbers}
 
 -- the digits of a number, at most k
 abbrev pub digitCountUpTo : (k n : ℕ) → ℕ
@@ -35,3 +40,10 @@ nameOf b = textOf (operator b)
 abbrev pub lineIn : Body Stmt → List ℕ
 lineIn (Good t) = stmtLine t
 lineIn (Bad r) = []
+
+-- ---- the whole text
+
+-- a text in a buffer that holds it, or refusal 10
+pub record Fitted (text out out′ : List ℕ) (r : Answer) : Type 0 where
+  pub answer : r ≡ numbers (fitting (length out) text)
+  pub buffer : out′ ≡ over ((fitting (length out) text) .bytes) out

@@ -1,8 +1,8 @@
-// Numbers in decimal, and tokens by name.
+// Numbers in decimal, and tokens by name. Every writer counts its letters and stores those that fit.
 use expr::number;
 ghost use mathlib.Core.Path.{_≡_};
 ghost use mathlib.Core.Bool.{true};
-ghost use Prim.Native.Nat.{_+_, _*_, _≤_, _<_};
+ghost use Prim.Native.Nat.{_+_, _*_, _^_, _≤_, _<_};
 ghost use mathlib.Core.List.{_++_};
 ghost use lib.ListN.{length, drop};
 ghost use Rattle.expr.specs.declared.File.the-variants.{Trace};
@@ -29,7 +29,7 @@ fn digits(v: u32) -> usize
 }
 
 pub fn put_decimal(v: u32, out: &mut [u8], at: usize) -> usize
-    requires { ⌜ at + 10 ≤ length (now out) ⌝ }
+    requires { ⌜ at + 10 < 2 ^ 64 ⌝ }
     ensures { λ r. ⌜ Wrote (now (out .entry)) at (decimal v) (now (out .exit)) r × (r ≤ at + 10) ⌝ }
 {
     let k = digits(v);
@@ -37,7 +37,8 @@ pub fn put_decimal(v: u32, out: &mut [u8], at: usize) -> usize
     let mut rest = v;
     while 0 < i {
         i -= 1;
-        out[at + i] = 48 + (rest % 10) as u8;
+        let digit = 48 + (rest % 10) as u8;
+        write::store(digit, &mut *out, at + i);
         rest /= 10;
     }
     at + k
@@ -45,51 +46,50 @@ pub fn put_decimal(v: u32, out: &mut [u8], at: usize) -> usize
 
 // The refusal's line, from the buffer's first byte.
 pub fn put_refusal(reply: u32, offset: u32, out: &mut [u8]) -> usize
-    requires { ⌜ 33 ≤ length (now out) ⌝ }
     ensures { λ r. ⌜ Wrote (now (out .entry)) 0 (refusalText reply offset) (now (out .exit)) r × (r ≤ 33) ⌝ }
 {
-    let a = write::put_part(b"refused ", out, 0);
+    let a = write::fit_part(b"refused ", out, 0);
     let b = put_decimal(reply, out, a);
-    let c = write::put_part(b" at ", out, b);
+    let c = write::fit_part(b" at ", out, b);
     let d = put_decimal(offset, out, c);
-    write::put_part(b"\n", out, d)
+    write::fit_part(b"\n", out, d)
 }
 
 // A test's kind, after a space.
 pub fn put_kind(kind: u8, out: &mut [u8], at: usize) -> usize
-    requires { ⌜ at + 7 ≤ length (now out) ⌝ }
+    requires { ⌜ at + 7 < 2 ^ 64 ⌝ }
     ensures { λ r. ⌜ Wrote (now (out .entry)) at (ascii " " ++ ascii (kindName (kindOf kind))) (now (out .exit)) r × (r ≤ at + 7) ⌝ }
 {
     if kind == 3 {
-        return write::put_part(b" assert", out, at);
+        return write::fit_part(b" assert", out, at);
     }
-    write::put_part(b" assume", out, at)
+    write::fit_part(b" assume", out, at)
 }
 
 // An operator by its code.
 fn put_name(code: u8, out: &mut [u8], at: usize) -> usize
-    requires { ⌜ (0 < popsOf code) × (at + 5 ≤ length (now out)) ⌝ }
+    requires { ⌜ (0 < popsOf code) × (at + 5 < 2 ^ 64) ⌝ }
     ensures { λ r. ⌜ Wrote (now (out .entry)) at (nameOf code) (now (out .exit)) r × (r ≤ at + 5) ⌝ }
 {
     match code {
-        0x10 => write::put_part(b"not", out, at),
-        0x11 => write::put_part(b"neg", out, at),
-        0x12 => write::put_part(b"zero", out, at),
-        0x20 => write::put_part(b"add", out, at),
-        0x21 => write::put_part(b"sub", out, at),
-        0x22 => write::put_part(b"mul", out, at),
-        0x23 => write::put_part(b"udiv", out, at),
-        0x24 => write::put_part(b"urem", out, at),
-        0x25 => write::put_part(b"and", out, at),
-        0x26 => write::put_part(b"or", out, at),
-        0x27 => write::put_part(b"xor", out, at),
-        0x28 => write::put_part(b"shl", out, at),
-        0x29 => write::put_part(b"lshr", out, at),
-        0x2A => write::put_part(b"equal", out, at),
-        0x2B => write::put_part(b"ult", out, at),
-        0x2C => write::put_part(b"slt", out, at),
-        0x2D => write::put_part(b"ule", out, at),
-        _ => write::put_part(b"ite", out, at),
+        0x10 => write::fit_part(b"not", out, at),
+        0x11 => write::fit_part(b"neg", out, at),
+        0x12 => write::fit_part(b"zero", out, at),
+        0x20 => write::fit_part(b"add", out, at),
+        0x21 => write::fit_part(b"sub", out, at),
+        0x22 => write::fit_part(b"mul", out, at),
+        0x23 => write::fit_part(b"udiv", out, at),
+        0x24 => write::fit_part(b"urem", out, at),
+        0x25 => write::fit_part(b"and", out, at),
+        0x26 => write::fit_part(b"or", out, at),
+        0x27 => write::fit_part(b"xor", out, at),
+        0x28 => write::fit_part(b"shl", out, at),
+        0x29 => write::fit_part(b"lshr", out, at),
+        0x2A => write::fit_part(b"equal", out, at),
+        0x2B => write::fit_part(b"ult", out, at),
+        0x2C => write::fit_part(b"slt", out, at),
+        0x2D => write::fit_part(b"ule", out, at),
+        _ => write::fit_part(b"ite", out, at),
     }
 }
 
@@ -101,10 +101,10 @@ struct Put {
 
 // The token at a place of an expression, after a space. No token has more letters than six for each of its bytes.
 fn put_token(e: &[u8], i: usize, out: &mut [u8], at: usize) -> Put
-    requires { ⌜ (i < length (now e)) × Stands Trace 4160 (now e) i × (at + 6 * sizeOf Trace (readToken Trace (drop i (now e))) ≤ length (now out)) ⌝ }
+    requires { ⌜ (i < length (now e)) × Stands Trace 4160 (now e) i × (at + 6 * sizeOf Trace (readToken Trace (drop i (now e))) < 2 ^ 64) ⌝ }
     ensures { λ r. ⌜ (r .size ≡ sizeOf Trace (readToken Trace (drop i (now (e .entry))))) × Wrote (now (out .entry)) at (readText (readToken Trace (drop i (now (e .entry))))) (now (out .exit)) (r .to) × (r .to ≤ at + 6 * r .size) ⌝ }
 {
-    let a = write::put_byte(0x20, out, at);
+    let a = write::fit_byte(0x20, out, at);
     let code = e[i];
     if code == 0x01 {
         let w = number::word_at(e, i + 1);
@@ -115,7 +115,7 @@ fn put_token(e: &[u8], i: usize, out: &mut [u8], at: usize) -> Put
     }
     if code == 0x03 {
         let symbol = number::two_at(e, i + 1);
-        let b = write::put_byte(0x73, out, a);
+        let b = write::fit_byte(0x73, out, a);
         return Put {
             size: 3,
             to: put_decimal(symbol as u32, out, b),
@@ -129,7 +129,7 @@ fn put_token(e: &[u8], i: usize, out: &mut [u8], at: usize) -> Put
 
 // A whole expression, each token after a space.
 pub fn put_tokens(e: &[u8], out: &mut [u8], at: usize) -> usize
-    requires { ⌜ (isWhole (parse Trace (below 4160) (now e)) ≡ true) × (at + 6 * length (now e) ≤ length (now out)) ⌝ }
+    requires { ⌜ (isWhole (parse Trace (below 4160) (now e)) ≡ true) × (at + 6 * length (now e) < 2 ^ 64) ⌝ }
     ensures { λ r. ⌜ Wrote (now (out .entry)) at (exprText (tokensOf (parse Trace (below 4160) (now (e .entry))))) (now (out .exit)) r × (r ≤ at + 6 * length (now (e .entry))) ⌝ }
 {
     let mut i: usize = 0;

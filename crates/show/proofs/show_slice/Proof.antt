@@ -14,13 +14,13 @@ use Rattle.trace.specs.Trace.{readTrace}
 use Rattle.unwind.specs.Answer.{Traced, traceAnswer, numbers, TraceWritten}
 use Rattle.slice.specs.Answer.{sliceAnswer}
 use Rattle.show.specs.Text.{refusalText, slicedText}
-use Rattle.show.proofs.Whole.{First, first-bytes, traced, printed-none, printed-refusal, printed-slice, too-small, shown}
+use Rattle.show.proofs.Whole.{First, first-bytes, traced, printed-none, printed-refusal, printed-slice, fitted-as, shown}
 use Rattle.show.proofs.show_slice.Statement.{statement}
 use Rattle.show.proofs.show_slice.Tie as tie
 
 module _ (c : tie.After-write-trace) where
   abbrev s : List ℕ
-  s = c .before .before .before .before .before .before .before .before .before .args .input .now
+  s = c .before .before .before .before .before .before .before .before .args .input .now
 
   abbrev table : List ℕ
   table = take (length s - 1) (drop 1 s)
@@ -47,25 +47,22 @@ module _ (c : tie.After-write-trace) where
       (first-bytes (λ n. (traceAnswer table (getD s 0 0) n) .bytes) (c .before .before .before .room .result) (c .before .before .before .room .ensures) (written .buffer) (ap (λ a. a .length) (written .answer)))
 
   some-byte : 0 < length s
-  some-byte = omega (arith, c .before .before .before .before .before .if2 .left)
+  some-byte = omega (arith, c .before .before .before .before .before .if1 .left)
 
   -- the reply is 0: the trace is accepted
   accepted : c .write-trace .result .reply ≡ 0 → (isAccepted (readTrace (due .bytes)) ≡ true) × (length (due .bytes) ≤ 65535)
   accepted z =
-      traced (drop 1 s) (getD s 0 0) 65535 (all-drop Byte 1 s (all-at Byte s (λ i h. c .before .before .before .before .before .before .before .before .shared-slice-known .given i .fits)))
+      traced (drop 1 s) (getD s 0 0) 65535 (all-drop Byte 1 s (all-at Byte s (λ i h. c .before .before .before .before .before .before .before .shared-slice-known .given i .fits)))
       (sym (ap (λ a. a .reply) answer-is) ∙ z)
 
-returns : tie.Need-returns
-returns c = too-small _ _ (c .if1 .taken)
-
-put-refusal-requires : tie.Need-put-refusal-requires
-put-refusal-requires c κs = search needs
+show-refusal-requires : tie.Need-show-refusal-requires
+show-refusal-requires c κs = search needs
 
 same-length : tie.Need-same-length
 same-length c = search needs
 
-returns-2 : tie.Need-returns-2
-returns-2 c = shown _ _ (c .before .before .before .before .before .if1 .left) (printed-none _ (c .before .before .before .before .if2 .taken)) (c .before .before .put-refusal .ensures .0) (omega (arith, c .before .before .put-refusal .ensures .1))
+returns : tie.Need-returns
+returns c = shown (fitted-as (sym (printed-none _ (c .before .before .before .before .if1 .taken))) (c .before .before .show-refusal .ensures))
 
 shared-slice-read-bound : tie.Need-shared-slice-read-bound
 shared-slice-read-bound c = search needs
@@ -91,19 +88,19 @@ slice-aggregate-write-trace c = search needs
 write-trace-requires : tie.Need-write-trace-requires
 write-trace-requires c κs = search needs
 
-put-refusal-requires-2 : tie.Need-put-refusal-requires-2
-put-refusal-requires-2 c κs = search needs
+show-refusal-requires-2 : tie.Need-show-refusal-requires-2
+show-refusal-requires-2 c κs = search needs
 
 same-length-2 : tie.Need-same-length-2
 same-length-2 c = search needs
 
-returns-3 : tie.Need-returns-3
-returns-3 c =
+returns-2 : tie.Need-returns-2
+returns-2 c =
     let w = c .before .before .before .before .before .before in
     let e : w .write-trace .result ≡ numbers (due w) = answer-is w in
-    shown _ _ (c .before .before .before .before .before .before .before .before .before .before .before .before .if1 .left)
-    (printed-refusal (s w) (some-byte w) (λ z. c .before .before .before .before .if3 .taken (ap (λ a. a .reply) e ∙ z)) ∙ sym (ap (λ a. refusalText (a .reply) (a .offset)) e))
-    (c .before .before .put-refusal2 .ensures .0) (omega (arith, c .before .before .put-refusal2 .ensures .1))
+    shown
+    (fitted-as (ap (λ a. refusalText (a .reply) (a .offset)) e ∙ sym (printed-refusal (s w) (some-byte w) (λ z. c .before .before .before .before .if2 .taken (ap (λ a. a .reply) e ∙ z))))
+    (c .before .before .show-refusal2 .ensures))
 
 cast-n : tie.Need-cast-n
 cast-n c = search needs
@@ -111,34 +108,33 @@ cast-n c = search needs
 array-share-prefix-trace : tie.Need-array-share-prefix-trace
 array-share-prefix-trace c = in-buffer (c .before .before .before) .inside
 
-slice-aggregate-put-sliced : tie.Need-slice-aggregate-put-sliced
-slice-aggregate-put-sliced c = in-buffer (c .before .before .before .before) .many
+slice-aggregate-show-sliced : tie.Need-slice-aggregate-show-sliced
+slice-aggregate-show-sliced c = in-buffer (c .before .before .before .before) .many
 
-put-sliced-requires : tie.Need-put-sliced-requires
-put-sliced-requires c κs =
+show-sliced-requires : tie.Need-show-sliced-requires
+show-sliced-requires c κs =
     let w = c .before .before .before .before .before in
     let f = in-buffer w in
-    let a = accepted w (c .before .before .before .if3 .left) in
-    (ap (λ t. isAccepted (readTrace t)) (f .those) ∙ a .0, omega (arith, ap length (f .those), a .1), c .before .before .before .before .before .before .before .before .before .before .before .if1 .left)
+    let a = accepted w (c .before .before .before .if2 .left) in
+    (ap (λ t. isAccepted (readTrace t)) (f .those) ∙ a .0, omega (arith, ap length (f .those), a .1))
 
 same-length-3 : tie.Need-same-length-3
 same-length-3 c = search needs
 
-returns-4 : tie.Need-returns-4
-returns-4 c =
+returns-3 : tie.Need-returns-3
+returns-3 c =
     let w = c .before .before .before .before .before .before .before .before in
-    shown _ _ (c .before .before .before .before .before .before .before .before .before .before .before .before .before .before .if1 .left)
-    (printed-slice (s w) (some-byte w) (sym (ap (λ a. a .reply) (answer-is w)) ∙ c .before .before .before .before .before .before .if3 .left) ∙ sym (ap (λ t. slicedText (sliceAnswer t 65535)) (in-buffer w .those)))
-    (c .before .before .put-sliced .ensures .0) (c .before .before .put-sliced .ensures .1)
+    shown
+    (fitted-as (ap (λ t. slicedText (sliceAnswer t 65535)) (in-buffer w .those) ∙ sym (printed-slice (s w) (some-byte w) (sym (ap (λ a. a .reply) (answer-is w)) ∙ c .before .before .before .before .before .before .if2 .left)))
+    (c .before .before .show-sliced .ensures))
 
 pub show-slice-spec : {M : Type 1} → statement M
 show-slice-spec =
     tie.close
     (tie.spec
-    returns
-    put-refusal-requires
+    show-refusal-requires
     same-length
-    returns-2
+    returns
     shared-slice-read-bound
     cast-bound
     room-requires
@@ -147,12 +143,12 @@ show-slice-spec =
     part-write-trace-end
     slice-aggregate-write-trace
     write-trace-requires
-    put-refusal-requires-2
+    show-refusal-requires-2
     same-length-2
-    returns-3
+    returns-2
     cast-n
     array-share-prefix-trace
-    slice-aggregate-put-sliced
-    put-sliced-requires
+    slice-aggregate-show-sliced
+    show-sliced-requires
     same-length-3
-    returns-4)
+    returns-3)

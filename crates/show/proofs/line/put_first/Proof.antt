@@ -4,13 +4,13 @@ use Rattle.show.proofs.line.put_first.Statement.{statement}
 use Rattle.show.proofs.line.put_first.Tie as tie
 use native.Mathlib.Omega.{arith}
 use Rattle.write.specs.SpliceLaws.{_then_}
-use Rattle.show.proofs.Decimal.{two-digits}
+use Rattle.show.specs.SizeLaws.{two-digits}
 
-slice-aggregate-put-part : tie.Need-slice-aggregate-put-part
-slice-aggregate-put-part c = search needs
+slice-aggregate-fit-part : tie.Need-slice-aggregate-fit-part
+slice-aggregate-fit-part c = search needs
 
-put-part-requires : tie.Need-put-part-requires
-put-part-requires c κs = search needs
+fit-part-requires : tie.Need-fit-part-requires
+fit-part-requires c κs = search needs
 
 cast-put-decimal : tie.Need-cast-put-decimal
 cast-put-decimal c = search needs
@@ -18,11 +18,11 @@ cast-put-decimal c = search needs
 put-decimal-requires : tie.Need-put-decimal-requires
 put-decimal-requires c κs = search needs
 
-slice-aggregate-put-part-2 : tie.Need-slice-aggregate-put-part-2
-slice-aggregate-put-part-2 c = search needs
+slice-aggregate-fit-part-2 : tie.Need-slice-aggregate-fit-part-2
+slice-aggregate-fit-part-2 c = search needs
 
-put-part-requires-2 : tie.Need-put-part-requires-2
-put-part-requires-2 c κs = search needs
+fit-part-requires-2 : tie.Need-fit-part-requires-2
+fit-part-requires-2 c κs = search needs
 
 cast-put-decimal-2 : tie.Need-cast-put-decimal-2
 cast-put-decimal-2 c = search needs
@@ -33,11 +33,11 @@ put-decimal-requires-2 c κs =
     let put-decimal = c .before .before .before .before .before .before .before .before .put-decimal in
     search (needs, two-digits (start .args .inputs) (omega (arith, start .pre .0)), put-decimal .ensures .0 .next)
 
-slice-aggregate-put-part-3 : tie.Need-slice-aggregate-put-part-3
-slice-aggregate-put-part-3 c = search needs
+slice-aggregate-fit-part-3 : tie.Need-slice-aggregate-fit-part-3
+slice-aggregate-fit-part-3 c = search needs
 
-put-part-requires-3 : tie.Need-put-part-requires-3
-put-part-requires-3 c κs =
+fit-part-requires-3 : tie.Need-fit-part-requires-3
+fit-part-requires-3 c κs =
     let start = c .before .before .before .before .before .before .before .before .before .before .before .before .before .before .before .before .before .before .before .before .before in
     let put-decimal = c .before .before .before .before .before .before .before .before .before .before .before .before .before .put-decimal in
     search (needs, two-digits (start .args .inputs) (omega (arith, start .pre .0)), put-decimal .ensures .0 .next)
@@ -48,26 +48,26 @@ same-length c = search needs
 returns : tie.Need-returns
 returns c =
     let start = c .before .before .before .before .before .before .before .before .before .before .before .before .before .before .before .before .before .before .before .before .before .before .before .before in
-    let put-part = c .before .before .before .before .before .before .before .before .before .before .before .before .before .before .before .before .before .before .before .before .put-part in
+    let fit-part = c .before .before .before .before .before .before .before .before .before .before .before .before .before .before .before .before .before .before .before .before .fit-part in
     let put-decimal = c .before .before .before .before .before .before .before .before .before .before .before .before .before .before .before .before .put-decimal in
-    let put-part2 = c .before .before .before .before .before .before .before .before .before .before .before .put-part2 in
+    let fit-part2 = c .before .before .before .before .before .before .before .before .before .before .before .fit-part2 in
     let put-decimal2 = c .before .before .before .before .before .before .before .put-decimal2 in
-    let put-part3 = c .before .before .put-part3 in
-    ((((put-part .ensures then put-decimal .ensures .0) then put-part2 .ensures) then put-decimal2 .ensures .0) then put-part3 .ensures, omega (arith, two-digits (start .args .inputs) (omega (arith, start .pre .0)), put-part .ensures .next, put-decimal .ensures .0 .next, put-part2 .ensures .next, put-decimal2 .ensures .1, put-part3 .ensures .next))
+    let fit-part3 = c .before .before .fit-part3 in
+    ((((fit-part .ensures then put-decimal .ensures .0) then fit-part2 .ensures) then put-decimal2 .ensures .0) then fit-part3 .ensures, omega (arith, two-digits (start .args .inputs) (omega (arith, start .pre .0)), fit-part .ensures .next, put-decimal .ensures .0 .next, fit-part2 .ensures .next, put-decimal2 .ensures .1, fit-part3 .ensures .next))
 
 pub put-first-spec : {M : Type 1} → statement M
 put-first-spec =
     tie.close
     (tie.spec
-    slice-aggregate-put-part
-    put-part-requires
+    slice-aggregate-fit-part
+    fit-part-requires
     cast-put-decimal
     put-decimal-requires
-    slice-aggregate-put-part-2
-    put-part-requires-2
+    slice-aggregate-fit-part-2
+    fit-part-requires-2
     cast-put-decimal-2
     put-decimal-requires-2
-    slice-aggregate-put-part-3
-    put-part-requires-3
+    slice-aggregate-fit-part-3
+    fit-part-requires-3
     same-length
     returns)

@@ -51,11 +51,11 @@ add-two-at-2 c = search needs
 two-at-requires-2 : tie.Need-two-at-requires-2
 two-at-requires-2 c κs = omega (arith, here (c .before .before .before .before .before .before .before .before .before .before) .whole, assigns c)
 
-slice-aggregate-put-part : tie.Need-slice-aggregate-put-part
-slice-aggregate-put-part c = search needs
+slice-aggregate-fit-part : tie.Need-slice-aggregate-fit-part
+slice-aggregate-fit-part c = search needs
 
-put-part-requires : tie.Need-put-part-requires
-put-part-requires c κs = search (needs, assigns (c .before .before .before))
+fit-part-requires : tie.Need-fit-part-requires
+fit-part-requires c κs = search (needs, assigns (c .before .before .before))
 
 cast-put-decimal-2 : tie.Need-cast-put-decimal-2
 cast-put-decimal-2 c = search needs
@@ -70,11 +70,11 @@ put-tokens-requires c κs =
     let after-if1 = c .before .before .before .before .before .before .before .before .before .before .before in
     (expr-is-whole (here start) (expr-at .ensures), search (needs, assigns after-if1))
 
-slice-aggregate-put-part-2 : tie.Need-slice-aggregate-put-part-2
-slice-aggregate-put-part-2 c = search needs
+slice-aggregate-fit-part-2 : tie.Need-slice-aggregate-fit-part-2
+slice-aggregate-fit-part-2 c = search needs
 
-put-part-requires-2 : tie.Need-put-part-requires-2
-put-part-requires-2 c κs = search (needs, assigns (c .before .before .before .before .before .before .before .before .before .before .before .before .before .before .before .before))
+fit-part-requires-2 : tie.Need-fit-part-requires-2
+fit-part-requires-2 c κs = search (needs, assigns (c .before .before .before .before .before .before .before .before .before .before .before .before .before .before .before .before))
 
 same-length : tie.Need-same-length
 same-length c = search needs
@@ -87,12 +87,12 @@ returns c =
     let put-decimal = c .before .before .before .before .before .before .before .before .before .before .before .before .before .before .before .before .before .before .before .before .before .before .put-decimal in
     let after-if1 = c .before .before .before .before .before .before .before .before .before .before .before .before .before .before .before .before .before .before .before in
     let two-at2 = c .before .before .before .before .before .before .before .before .before .before .before .before .before .before .before .before .before .before .two-at2 in
-    let put-part = c .before .before .before .before .before .before .before .before .before .before .before .before .before .before .before .put-part in
+    let fit-part = c .before .before .before .before .before .before .before .before .before .before .before .before .before .before .before .fit-part in
     let put-decimal2 = c .before .before .before .before .before .before .before .before .before .before .before .put-decimal2 in
     let put-tokens = c .before .before .before .before .before .before .before .put-tokens in
-    let put-part2 = c .before .before .put-part2 in (
-      wrote-as (assign-line (here start) (expr-at .ensures) (after-if1 .if1 .taken) _ _ (two-at .ensures .0) (two-at2 .ensures .0)) ((((put-decimal .ensures .0 then put-part .ensures) then put-decimal2 .ensures .0) then put-tokens .ensures .0) then put-part2 .ensures),
-      omega (arith, put-decimal .ensures .1, put-part .ensures .next, put-decimal2 .ensures .1, put-tokens .ensures .1, put-part2 .ensures .next, assigns after-if1),
+    let fit-part2 = c .before .before .fit-part2 in (
+      wrote-as (assign-line (here start) (expr-at .ensures) (after-if1 .if1 .taken) _ _ (two-at .ensures .0) (two-at2 .ensures .0)) ((((put-decimal .ensures .0 then fit-part .ensures) then put-decimal2 .ensures .0) then put-tokens .ensures .0) then fit-part2 .ensures),
+      omega (arith, put-decimal .ensures .1, fit-part .ensures .next, put-decimal2 .ensures .1, put-tokens .ensures .1, fit-part2 .ensures .next, assigns after-if1),
     )
 
 put-kind-requires : tie.Need-put-kind-requires
@@ -106,11 +106,11 @@ put-tokens-requires-2 c κs =
     let put-kind = c .before .before .before .put-kind in
     (expr-is-whole (here start) (expr-at .ensures), search (needs, put-kind .ensures .1, tests after-if1))
 
-slice-aggregate-put-part-3 : tie.Need-slice-aggregate-put-part-3
-slice-aggregate-put-part-3 c = search needs
+slice-aggregate-fit-part-3 : tie.Need-slice-aggregate-fit-part-3
+slice-aggregate-fit-part-3 c = search needs
 
-put-part-requires-3 : tie.Need-put-part-requires-3
-put-part-requires-3 c κs = search (needs, c .before .before .before .before .before .before .before .before .put-kind .ensures .1, tests (c .before .before .before .before .before .before .before .before .before .before))
+fit-part-requires-3 : tie.Need-fit-part-requires-3
+fit-part-requires-3 c κs = search (needs, c .before .before .before .before .before .before .before .before .put-kind .ensures .1, tests (c .before .before .before .before .before .before .before .before .before .before))
 
 same-length-2 : tie.Need-same-length-2
 same-length-2 c = search needs
@@ -124,8 +124,8 @@ returns-2 c =
     let after-if1 = c .before .before .before .before .before .before .before .before .before .before .before .before .before in
     let put-kind = c .before .before .before .before .before .before .before .before .before .before .before .put-kind in
     let put-tokens2 = c .before .before .before .before .before .before .before .put-tokens2 in
-    let put-part3 = c .before .before .put-part3 in
-    (wrote-as (test-line (here start) (expr-at .ensures) (after-if1 .if1 .left) _ (two-at .ensures .0)) (((put-decimal .ensures .0 then put-kind .ensures .0) then put-tokens2 .ensures .0) then put-part3 .ensures), omega (arith, put-decimal .ensures .1, put-kind .ensures .1, put-tokens2 .ensures .1, put-part3 .ensures .next, tests after-if1))
+    let fit-part3 = c .before .before .fit-part3 in
+    (wrote-as (test-line (here start) (expr-at .ensures) (after-if1 .if1 .left) _ (two-at .ensures .0)) (((put-decimal .ensures .0 then put-kind .ensures .0) then put-tokens2 .ensures .0) then fit-part3 .ensures), omega (arith, put-decimal .ensures .1, put-kind .ensures .1, put-tokens2 .ensures .1, fit-part3 .ensures .next, tests after-if1))
 
 pub put-line-spec : {M : Type 1} → statement M
 put-line-spec =
@@ -140,18 +140,18 @@ put-line-spec =
     put-decimal-requires
     add-two-at-2
     two-at-requires-2
-    slice-aggregate-put-part
-    put-part-requires
+    slice-aggregate-fit-part
+    fit-part-requires
     cast-put-decimal-2
     put-decimal-requires-2
     put-tokens-requires
-    slice-aggregate-put-part-2
-    put-part-requires-2
+    slice-aggregate-fit-part-2
+    fit-part-requires-2
     same-length
     returns
     put-kind-requires
     put-tokens-requires-2
-    slice-aggregate-put-part-3
-    put-part-requires-3
+    slice-aggregate-fit-part-3
+    fit-part-requires-3
     same-length-2
     returns-2)

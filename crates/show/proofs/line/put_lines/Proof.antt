@@ -18,7 +18,7 @@ loop-holds : tie.Need-loop-holds Inv-loop μ-loop
 loop-holds c = listing-start _ _ _ _ (all-at Byte (c .before .before .args .trace .now) (λ i h. c .before .shared-slice-known .given i .fits)) (c .before .before .pre .0) (c .before .before .pre .1) (c .before .before .pre .2)
 
 put-line-requires : tie.Need-put-line-requires Inv-loop μ-loop
-put-line-requires c κs = let v = c .before .before .loop .inv in let h = c .before .loop-test .taken in (omega (arith, v .inside, v .few), listing-good v h, listing-room v h (c .before .before .before .before .before .pre .3))
+put-line-requires c κs = let v = c .before .before .loop .inv in let h = c .before .loop-test .taken in (omega (arith, v .inside, v .few), listing-good v h, listing-room v h)
 
 two-at-requires : tie.Need-two-at-requires Inv-loop μ-loop
 two-at-requires c κs = omega (arith, listing-inside (c .before .before .before .before .before .loop .inv) (c .before .before .before .before .loop-test .taken))

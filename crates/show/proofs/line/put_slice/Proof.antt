@@ -7,7 +7,7 @@ use Rattle.write.specs.SpliceLaws.{_then_, wrote-as}
 use Rattle.show.proofs.Lines.{Told, told, told-text}
 
 here : (c : tie.Start) → Told (c .args .trace .now)
-here c = told (c .args .trace .now) (c .pre .0)
+here c = told (c .args .trace .now) (c .pre)
 
 shared-slice-read-wide : tie.Need-shared-slice-read-wide
 shared-slice-read-wide c = omega (arith, here (c .before .before .before) .long)
@@ -19,7 +19,7 @@ two-at-requires : tie.Need-two-at-requires
 two-at-requires c κs = omega (arith, here (c .before .before .before .before) .long)
 
 put-first-requires : tie.Need-put-first-requires
-put-first-requires c κs = (omega (arith, c .before .before .wide .ensures .0, here (c .before .before .before .before .before .before) .inputs), omega (arith, c .before .two-at .ensures .0, here (c .before .before .before .before .before .before) .count), omega (arith, c .before .before .before .before .before .before .pre .1))
+put-first-requires c κs = (omega (arith, c .before .before .wide .ensures .0, here (c .before .before .before .before .before .before) .inputs), omega (arith, c .before .two-at .ensures .0, here (c .before .before .before .before .before .before) .count))
 
 put-lines-requires : tie.Need-put-lines-requires
 put-lines-requires c κs = search needs

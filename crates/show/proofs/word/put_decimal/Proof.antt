@@ -2,7 +2,8 @@
 use Rattle.show.proofs.word.put_decimal.Statement.{statement}
 use Rattle.show.proofs.word.put_decimal.Tie as tie
 use native.Mathlib.Omega.{arith}
-use Prim.Native.Nat.{_-_}
+use Prim.Native.Nat.{_-_, _/_}
+use mathlib.Core.Path.{sym, subst}
 use borrow.Author.Needs.{needs}
 use Rattle.show.proofs.Decimal.{Storing, storing-start, storing-length, store-on, stored}
 
@@ -21,23 +22,28 @@ loop-holds c = storing-start _ _ _ _
 sub-i : tie.Need-sub-i Inv-loop μ-loop
 sub-i c = search needs
 
-cast-out : tie.Need-cast-out Inv-loop μ-loop
-cast-out c = search needs
+cast-digit : tie.Need-cast-digit Inv-loop μ-loop
+cast-digit c = search needs
 
-add-out : tie.Need-add-out Inv-loop μ-loop
-add-out c = search needs
+add-digit : tie.Need-add-digit Inv-loop μ-loop
+add-digit c = search needs
 
-add-out-2 : tie.Need-add-out-2 Inv-loop μ-loop
-add-out-2 c = omega (arith, c .before .loop .inv .inside, storing-length (c .before .loop .inv), c .before .before .digits .ensures .2, c .before .before .before .before .pre, c .loop-test .taken)
+add-store : tie.Need-add-store Inv-loop μ-loop
+add-store c = omega (arith, c .before .before .loop .inv .inside, c .before .before .before .digits .ensures .2, c .before .before .before .before .before .pre, c .before .loop-test .taken)
 
-slice-write-out : tie.Need-slice-write-out Inv-loop μ-loop
-slice-write-out c = omega (arith, c .before .loop .inv .inside, storing-length (c .before .loop .inv), c .before .before .digits .ensures .2, c .before .before .before .before .pre, c .loop-test .taken)
+store-requires : tie.Need-store-requires Inv-loop μ-loop
+store-requires c κs = search needs
 
 loop-less : tie.Need-loop-less Inv-loop μ-loop
-loop-less c = omega (arith, c .loop-test .taken)
+loop-less c = omega (arith, c .before .before .before .before .loop-test .taken)
 
 loop-again : tie.Need-loop-again Inv-loop μ-loop
-loop-again c = store-on (c .before .loop .inv) (c .before .loop .i - 1) (omega (arith, c .loop-test .taken))
+loop-again c =
+    let v = c .before .before .before .before .before .loop in
+    let start = c .before .before .before .before .before .before .before .before .args in
+    subst (λ o. Storing (start .v) (start .out .now) (start .at) (c .before .before .before .before .before .before .digits .result) o (v .i - 1) (v .rest / 10))
+    (sym (c .before .before .store .ensures))
+    (store-on (v .inv) (v .i - 1) (omega (arith, c .before .before .before .before .loop-test .taken)))
 
 add-result : tie.Need-add-result Inv-loop μ-loop
 add-result c = omega (arith, c .before .before .digits .ensures .2, c .before .before .before .before .pre)
@@ -57,10 +63,10 @@ put-decimal-spec =
     digits-requires
     loop-holds
     sub-i
-    cast-out
-    add-out
-    add-out-2
-    slice-write-out
+    cast-digit
+    add-digit
+    add-store
+    store-requires
     loop-less
     loop-again
     add-result

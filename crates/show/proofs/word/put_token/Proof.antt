@@ -20,8 +20,8 @@ symbol-here c = symbol-is _ _ (c .before .before .before .before .before .before
 operator-here : (c : tie.Else2) → Is (c .before .before .before .before .before .before .before .before .before .args .e .now) (c .before .before .before .before .before .before .before .before .before .args .i) 1 (nameOf (getD (c .before .before .before .before .before .before .before .before .before .args .e .now) (c .before .before .before .before .before .before .before .before .before .args .i) 0))
 operator-here c = operator-text _ _ (c .before .before .before .before .before .before .before .before .before .pre .0) (c .before .before .before .before .before .before .before .before .before .pre .1) (c .before .if1 .left) (c .if2 .left)
 
-put-byte-requires : tie.Need-put-byte-requires
-put-byte-requires c κs = search (needs, some-size _ _ (c .before .before .before .pre .0) (c .before .before .before .pre .1))
+fit-byte-requires : tie.Need-fit-byte-requires
+fit-byte-requires c κs = search (needs, some-size _ _ (c .before .before .before .pre .0) (c .before .before .before .pre .1))
 
 shared-slice-read-code : tie.Need-shared-slice-read-code
 shared-slice-read-code c = search needs
@@ -39,7 +39,7 @@ same-length : tie.Need-same-length
 same-length c = search needs
 
 returns : tie.Need-returns
-returns c = token-wrote (constant-here (c .before .before .before .before)) (c .before .before .before .before .before .before .before .before .before .put-byte .ensures then c .before .before .put-decimal .ensures .0) (omega (arith, c .before .before .before .before .before .before .before .before .before .put-byte .ensures .next, c .before .before .put-decimal .ensures .1))
+returns c = token-wrote (constant-here (c .before .before .before .before)) (c .before .before .before .before .before .before .before .before .before .fit-byte .ensures then c .before .before .put-decimal .ensures .0) (omega (arith, c .before .before .before .before .before .before .before .before .before .fit-byte .ensures .next, c .before .before .put-decimal .ensures .1))
 
 add-two-at : tie.Need-add-two-at
 add-two-at c = search needs
@@ -47,8 +47,8 @@ add-two-at c = search needs
 two-at-requires : tie.Need-two-at-requires
 two-at-requires c κs = omega (arith, symbol _ _ (c .before .before .before .before .before .before .before .before .before .pre .0) (c .before .before .before .before .before .before .before .before .before .pre .1) (c .if2 .taken) .there)
 
-put-byte-requires-2 : tie.Need-put-byte-requires-2
-put-byte-requires-2 c κs = search (needs, symbol-here (c .before) .size)
+fit-byte-requires-2 : tie.Need-fit-byte-requires-2
+fit-byte-requires-2 c κs = search (needs, symbol-here (c .before) .size)
 
 cast-put-decimal : tie.Need-cast-put-decimal
 cast-put-decimal c = search needs
@@ -61,11 +61,11 @@ same-length-2 c = search needs
 
 returns-2 : tie.Need-returns-2
 returns-2 c =
-    let put-byte = c .before .before .before .before .before .before .before .before .before .before .before .before .before .before .put-byte in
+    let fit-byte = c .before .before .before .before .before .before .before .before .before .before .before .before .before .before .fit-byte in
     let after-two-at = c .before .before .before .before .before .before .before .before in
-    let put-byte2 = c .before .before .before .before .before .before .put-byte2 in
+    let fit-byte2 = c .before .before .before .before .before .before .fit-byte2 in
     let put-decimal2 = c .before .before .put-decimal2 in
-    token-wrote (symbol-here after-two-at) (put-byte .ensures then put-byte2 .ensures then put-decimal2 .ensures .0) (omega (arith, put-byte .ensures .next, put-byte2 .ensures .next, put-decimal2 .ensures .1))
+    token-wrote (symbol-here after-two-at) (fit-byte .ensures then fit-byte2 .ensures then put-decimal2 .ensures .0) (omega (arith, fit-byte .ensures .next, fit-byte2 .ensures .next, put-decimal2 .ensures .1))
 
 put-name-requires : tie.Need-put-name-requires
 put-name-requires c κs = (operates _ _ (c .before .before .before .before .before .before .before .before .before .before .pre .0) (c .before .before .before .before .before .before .before .before .before .before .pre .1) (c .before .before .if1 .left) (c .before .if2 .left) .pops-some, search (needs, operator-here (c .before) .size))
@@ -74,13 +74,13 @@ same-length-3 : tie.Need-same-length-3
 same-length-3 c = search needs
 
 returns-3 : tie.Need-returns-3
-returns-3 c = token-wrote (operator-here (c .before .before .before .before)) (c .before .before .before .before .before .before .before .before .before .put-byte .ensures then c .before .before .put-name .ensures .0) (omega (arith, c .before .before .before .before .before .before .before .before .before .put-byte .ensures .next, c .before .before .put-name .ensures .1))
+returns-3 c = token-wrote (operator-here (c .before .before .before .before)) (c .before .before .before .before .before .before .before .before .before .fit-byte .ensures then c .before .before .put-name .ensures .0) (omega (arith, c .before .before .before .before .before .before .before .before .before .fit-byte .ensures .next, c .before .before .put-name .ensures .1))
 
 pub put-token-spec : {M : Type 1} → statement M
 put-token-spec =
     tie.close
     (tie.spec
-    put-byte-requires
+    fit-byte-requires
     shared-slice-read-code
     add-word-at
     word-at-requires
@@ -89,7 +89,7 @@ put-token-spec =
     returns
     add-two-at
     two-at-requires
-    put-byte-requires-2
+    fit-byte-requires-2
     cast-put-decimal
     put-decimal-requires-2
     same-length-2

@@ -5,12 +5,11 @@ use Rattle.expr.specs.Lists.{all-at}
 use Rattle.expr.specs.Number.{Byte}
 use Rattle.file.specs.Shown.{isAccepted}
 use Rattle.trace.specs.Trace.{readTrace}
-use Rattle.write.specs.SpliceLaws.{wrote-as}
 use Rattle.slice.specs.Answer.{sliceAnswer}
 use Rattle.show.specs.Text.{traceText}
-use Rattle.show.proofs.Whole.{First, first-bytes, Kept, kept}
-use Rattle.show.proofs.put_sliced.Statement.{statement}
-use Rattle.show.proofs.put_sliced.Tie as tie
+use Rattle.show.proofs.Whole.{First, first-bytes, Kept, kept, fitted-as}
+use Rattle.show.proofs.show_sliced.Statement.{statement}
+use Rattle.show.proofs.show_sliced.Tie as tie
 
 slice-kept : (c : tie.After-shared-slice-known) → Kept (c .before .args .trace .now)
 slice-kept c = kept (c .before .args .trace .now) (all-at Byte (c .before .args .trace .now) (λ i h. c .shared-slice-known .given i .fits)) (c .before .pre .0) (c .before .pre .1)
@@ -35,20 +34,20 @@ cast-n c = search needs
 array-share-prefix-kept : tie.Need-array-share-prefix-kept
 array-share-prefix-kept c = in-buffer (c .before .before) .inside
 
-slice-aggregate-put-slice : tie.Need-slice-aggregate-put-slice
-slice-aggregate-put-slice c = in-buffer (c .before .before .before) .many
+slice-aggregate-show-trace : tie.Need-slice-aggregate-show-trace
+slice-aggregate-show-trace c = in-buffer (c .before .before .before) .many
 
-put-slice-requires : tie.Need-put-slice-requires
-put-slice-requires c κs = (ap (λ s. isAccepted (readTrace s)) (in-buffer (c .before .before .before .before) .those) ∙ slice-kept (c .before .before .before .before .before .before .before .before) .accepted, c .before .before .before .before .before .before .before .before .before .pre .2)
+show-trace-requires : tie.Need-show-trace-requires
+show-trace-requires c κs = ap (λ s. isAccepted (readTrace s)) (in-buffer (c .before .before .before .before) .those) ∙ slice-kept (c .before .before .before .before .before .before .before .before) .accepted
 
 same-length : tie.Need-same-length
 same-length c = search needs
 
 returns : tie.Need-returns
-returns c = (wrote-as (ap (λ s. traceText (readTrace s)) (in-buffer (c .before .before .before .before .before .before .before) .those) ∙ slice-kept (c .before .before .before .before .before .before .before .before .before .before .before) .text) (c .before .before .put-slice .ensures .0), c .before .before .put-slice .ensures .1)
+returns c = fitted-as (ap (λ s. traceText (readTrace s)) (in-buffer (c .before .before .before .before .before .before .before) .those) ∙ slice-kept (c .before .before .before .before .before .before .before .before .before .before .before) .text) (c .before .before .show-trace .ensures)
 
-pub put-sliced-spec : {M : Type 1} → statement M
-put-sliced-spec =
+pub show-sliced-spec : {M : Type 1} → statement M
+show-sliced-spec =
     tie.close
     (tie.spec
     room-requires
@@ -56,7 +55,7 @@ put-sliced-spec =
     slice-trace-requires
     cast-n
     array-share-prefix-kept
-    slice-aggregate-put-slice
-    put-slice-requires
+    slice-aggregate-show-trace
+    show-trace-requires
     same-length
     returns)
