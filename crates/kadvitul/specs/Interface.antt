@@ -1,9 +1,10 @@
--- Document 01, "What is built": the C job hands a valuation as 4×S big-endian bytes; any other length is refusal 11.
-use Prim.Native.Nat.{ℕ, zero, suc, _*_, _≤_, _<_}
+-- Document 01, "What is built": the C job hands a valuation as 4×S big-endian bytes; any other length is refusal 11. Each call returns
+-- one number of the answer.
+use Prim.Native.Nat.{ℕ, zero, suc, _*_}
 use mathlib.Core.Path.{_≡_}
 use mathlib.Core.Bool.{cond}
 use mathlib.Core.List.{List, [], _∷_}
-use lib.ListN.{length, take, drop}
+use lib.ListN.{length, drop}
 use lib.Dec.{eqb, leb}
 use Rattle.expr.specs.Number.{numberOf}
 use Rattle.file.specs.File.{Input, Accepted, Refused}
@@ -17,20 +18,13 @@ use Rattle.trace.specs.Trace.{Stmt, readTrace}
 use Rattle.trace.specs.Judge.{judge}
 use Rattle.trace.specs.Answer as Judging
 use Rattle.write.specs.Splice.{over}
-use Rattle.unwind.specs.Answer.{traceAnswer}
-use Rattle.slice.specs.Answer.{sliceAnswer}
+use Rattle.unwind.specs.Answer.{Traced, traceAnswer}
+use Rattle.slice.specs.Answer.{Sliced, sliceAnswer}
 
 -- the first c words of a valuation
 abbrev pub wordsOf : (c : ℕ) → List ℕ → List ℕ
 wordsOf zero bs = []
 wordsOf (suc c) bs = numberOf 4 bs ∷ wordsOf c (drop 4 bs)
-
--- the words that stand before the first `count` of an array: all of a valuation, or 65 for one that is of no file
-pub record Decoded (valuation words : List ℕ) (count : ℕ) : Type 0 where
-  pub room : length words ≡ 65
-  pub most : count ≤ 65
-  pub whole : count ≤ 64 → (length valuation ≡ 4 * count) × (take count words ≡ wordsOf count valuation)
-  pub none : 64 < count → (c : ℕ) → c ≤ 64 → length valuation ≡ 4 * c → ⊥
 
 abbrev pub answeredBytes : (K : ℕ) (valuation : List ℕ) → Input Instr → Answer
 answeredBytes K valuation (Refused reply offset) = refusal reply offset
@@ -47,9 +41,58 @@ judgedBytes valuation (Accepted S ts) = cond (eqb (length valuation) (4 * S)) (J
 unfoldable pub judgeBytes : (trace valuation : List ℕ) → Judged.Answer
 judgeBytes trace valuation = judgedBytes valuation (readTrace trace)
 
--- each call for a trace or a slice writes it: the bytes of the answer from the first byte on, and the rest as it was
-abbrev pub TraceLeft : (table : List ℕ) (K : ℕ) (out out′ : List ℕ) → Type 0
-TraceLeft table K out out′ = out′ ≡ over ((traceAnswer table K (length out)) .bytes) out
+-- ---- the numbers that the calls give, one each
 
-abbrev pub SliceLeft : (trace out out′ : List ℕ) → Type 0
-SliceLeft trace out out′ = out′ ≡ over ((sliceAnswer trace (length out)) .bytes) out
+pub data RunNumber : Type 0 where
+  RunReply RunOffset RunVerdict RunPlace RunBackJumps : RunNumber
+
+abbrev pub runNumber : RunNumber → Answer → ℕ
+runNumber RunReply a = a .reply
+runNumber RunOffset a = a .offset
+runNumber RunVerdict a = a .verdict
+runNumber RunPlace a = a .place
+runNumber RunBackJumps a = a .«back_jumps»
+
+pub data JudgeNumber : Type 0 where
+  JudgeReply JudgeOffset JudgeVerdict JudgePlace : JudgeNumber
+
+abbrev pub judgeNumber : JudgeNumber → Judged.Answer → ℕ
+judgeNumber JudgeReply a = a .reply
+judgeNumber JudgeOffset a = a .offset
+judgeNumber JudgeVerdict a = a .verdict
+judgeNumber JudgePlace a = a .place
+
+pub data TraceNumber : Type 0 where
+  TraceReply TraceOffset TraceLength : TraceNumber
+
+abbrev pub traceNumber : TraceNumber → Traced → ℕ
+traceNumber TraceReply q = q .reply
+traceNumber TraceOffset q = q .offset
+traceNumber TraceLength q = length (q .bytes)
+
+pub data SliceNumber : Type 0 where
+  SliceReply SliceOffset SliceLength SliceMask SliceInputs : SliceNumber
+
+abbrev pub sliceNumber : SliceNumber → Sliced → ℕ
+sliceNumber SliceReply q = q .reply
+sliceNumber SliceOffset q = q .offset
+sliceNumber SliceLength q = length (q .bytes)
+sliceNumber SliceMask q = q .mask
+sliceNumber SliceInputs q = q .inputs
+
+-- ---- what each call gives, and what it leaves in the buffer
+
+pub record RunGives (which : RunNumber) (table : List ℕ) (K : ℕ) (valuation : List ℕ) (r : ℕ) : Type 0 where
+  pub number : r ≡ runNumber which (runBytes table K valuation)
+
+pub record JudgeGives (which : JudgeNumber) (trace valuation : List ℕ) (r : ℕ) : Type 0 where
+  pub number : r ≡ judgeNumber which (judgeBytes trace valuation)
+
+-- each call for a trace or a slice writes it: the bytes of the answer from the first byte on, and the rest as it was
+pub record TraceGives (which : TraceNumber) (table : List ℕ) (K : ℕ) (out out′ : List ℕ) (r : ℕ) : Type 0 where
+  pub number : r ≡ traceNumber which (traceAnswer table K (length out))
+  pub buffer : out′ ≡ over ((traceAnswer table K (length out)) .bytes) out
+
+pub record SliceGives (which : SliceNumber) (trace out out′ : List ℕ) (r : ℕ) : Type 0 where
+  pub number : r ≡ sliceNumber which (sliceAnswer trace (length out))
+  pub buffer : out′ ≡ over ((sliceAnswer trace (length out)) .bytes) out

@@ -1,27 +1,31 @@
--- A valuation of bytes is the valuation of its words.
-use Prim.Native.Nat.{ℕ, zero, suc, _+_, _*_, _≤_}
+-- A valuation of bytes is the valuation of its words: in the definitions, and in the code that stores them.
+use Prim.Native.Nat.{ℕ, zero, suc, _+_, _*_, _≤_, _<_}
 use native.Mathlib.Omega.{arith}
 use native.Mathlib.Decide.{decLt}
 use native.Mathlib.Numerals.{add-one}
 use mathlib.Core.Path.{_≡_, refl, sym, ap, ap₂, _∙_}
+use mathlib.Core.Logic.{_↔_}
 use mathlib.Core.Bool.{Bool, true, false, cond}
 use mathlib.Core.List.{List, [], _∷_, _++_}
-use lib.ListN.{length, take, drop, set}
+use lib.ListN.{length, take, drop, getD, set, replicate, length-replicate}
 use lib.Seq.{length-take-le, length-sets, drop-drop, sets, sets-eq, take-at}
 use lib.Dec.{eqb, leb}
 use borrow.Author.Tests.{eqb-true, eqb-false, eq-eqb, ne-eqb}
 use Rattle.expr.specs.Number.{numberOf}
-use Rattle.file.specs.File.{Input, Accepted, Refused}
+use Rattle.file.specs.File.{headerInputs, Input, Accepted, Refused}
 use Rattle.file.specs.FileLaws.{header-is, file-is, sets-snoc}
 use Rattle.table.specs.Table.{Instr, instrs, readTable}
+use Rattle.table.specs.TableLaws.{table-inputs}
 use Rattle.table.specs.Run.{run}
 use Rattle.table.specs.Answer.{refusal, answerOf, answered, runAnswer}
 use Rattle.expr.specs.Eval.{envOf}
 use Rattle.trace.specs.Trace.{Stmt, stmts, readTrace}
+use Rattle.trace.specs.TraceLaws.{trace-inputs}
 use Rattle.trace.specs.Judge.{judge}
 use Rattle.trace.specs.Answer as Judging
 use Rattle.trace.specs.Answer.{judgeAnswer}
-use Rattle.kadvitul.specs.Interface.{wordsOf, Decoded, answeredBytes, runBytes, judgedBytes, judgeBytes}
+use Rattle.kadvitul.specs.Interface.{wordsOf, answeredBytes, runBytes, judgedBytes, judgeBytes}
+use Rattle.kadvitul.specs.Shown.{Decoded}
 
 pub words-length : (c : ℕ) (bs : List ℕ) → length (wordsOf c bs) ≡ c
 words-length zero bs = refl
@@ -36,7 +40,66 @@ words-next c bs = ap (λ n. wordsOf n bs) (add-one c) ∙ go c bs
         ap {B = List ℕ} (λ r. numberOf 4 bs ∷ r) (go c (drop 4 bs))
         ∙ ap {B = List ℕ} (λ r. numberOf 4 bs ∷ wordsOf c (drop 4 bs) ++ numberOf 4 r ∷ []) (drop-drop (4 * c) 4 bs ∙ ap (λ n. drop n bs) (let e : 4 + 4 * c ≡ 4 * suc c = omega arith in e))
 
+-- ---- running and judging from bytes is running and judging from words
+
+-- the words of a valuation of S inputs; for bytes of another length, words that no file of S inputs takes
+abbrev pub asWords : (S : ℕ) (valuation : List ℕ) → List ℕ
+asWords S valuation = cond (eqb (length valuation) (4 * S)) (wordsOf S valuation) (replicate (suc S) 0)
+
+pub as-words-right : (S : ℕ) (valuation : List ℕ) → length valuation ≡ 4 * S → asWords S valuation ≡ wordsOf S valuation
+as-words-right S valuation h = ap (λ b. cond b (wordsOf S valuation) (replicate (suc S) 0)) (eq-eqb (length valuation) (4 * S) h)
+
+-- as many as S exactly if there are 4 × S bytes
+pub as-words-length : (S : ℕ) (valuation : List ℕ) → (length (asWords S valuation) ≡ S) ↔ (length valuation ≡ 4 * S)
+as-words-length S valuation = (λ e. go (eqb (length valuation) (4 * S)) refl e, λ h. ap length (as-words-right S valuation h) ∙ words-length S valuation)
+  where
+    go : (b : Bool) → eqb (length valuation) (4 * S) ≡ b → length (cond b (wordsOf S valuation) (replicate (suc S) 0)) ≡ S → length valuation ≡ 4 * S
+    go true e h = eqb-true (length valuation) (4 * S) e
+    go false e h = absurd (omega (arith, length-replicate {A = ℕ} (suc S) 0))
+
+-- word s of a valuation
+pub words-at : (c : ℕ) (bs : List ℕ) (s : ℕ) → s < c → getD (wordsOf c bs) s 0 ≡ numberOf 4 (drop (4 * s) bs)
+words-at zero bs s h = absurd (omega arith)
+words-at (suc c) bs zero h = refl
+words-at (suc c) bs (suc s) h =
+    words-at c (drop 4 bs) s (omega arith)
+    ∙ ap (numberOf 4) (drop-drop (4 * s) 4 bs ∙ ap (λ n. drop n bs) (let e : 4 + 4 * s ≡ 4 * suc s = omega arith in e))
+
 -- what is answered for S words is answered for 4 × S bytes
+as-answered : {R : Type 0} (S : ℕ) (valuation : List ℕ) (answer : List ℕ → R) (refused : R)
+    → cond (eqb (length valuation) (4 * S)) (answer (wordsOf S valuation)) refused
+    ≡ cond (eqb (length (asWords S valuation)) S) (answer (asWords S valuation)) refused
+as-answered S valuation answer refused = go (eqb (length valuation) (4 * S))
+  where
+    go : (b : Bool) → cond b (answer (wordsOf S valuation)) refused
+        ≡ cond (eqb (length (cond b (wordsOf S valuation) (replicate (suc S) 0))) S) (answer (cond b (wordsOf S valuation) (replicate (suc S) 0))) refused
+    go true = sym (ap (λ b. cond b (answer (wordsOf S valuation)) refused) (eq-eqb (length (wordsOf S valuation)) S (words-length S valuation)))
+    go false =
+        sym (ap (λ b. cond b (answer (replicate (suc S) 0)) refused)
+        (ne-eqb (length (replicate {A = ℕ} (suc S) 0)) S (λ e. omega (arith, length-replicate {A = ℕ} (suc S) 0))))
+
+pub run-as-words : (s : List ℕ) (K : ℕ) (valuation : List ℕ) → runBytes s K valuation ≡ runAnswer s K (asWords (headerInputs s) valuation)
+unfolding runAnswer runBytes
+run-as-words s K valuation = go (readTable s) refl
+  where
+    go : (x : Input Instr) → readTable s ≡ x → answeredBytes K valuation x ≡ answered K (asWords (headerInputs s) valuation) x
+    go (Refused r o) e = refl
+    go (Accepted S is) e =
+        ap (λ a. cond (leb K 255) a (refusal 8 0)) (as-answered S valuation (λ ws. answerOf (run is K ws)) (refusal 11 0))
+        ∙ ap (λ n. answered K (asWords n valuation) (Accepted S is)) (sym (table-inputs s S is e))
+
+pub judge-as-words : (s valuation : List ℕ) → judgeBytes s valuation ≡ judgeAnswer s (asWords (headerInputs s) valuation)
+unfolding judgeAnswer judgeBytes
+judge-as-words s valuation = go (readTrace s) refl
+  where
+    go : (x : Input Stmt) → readTrace s ≡ x → judgedBytes valuation x ≡ Judging.answered (asWords (headerInputs s) valuation) x
+    go (Refused r o) e = refl
+    go (Accepted S ts) e =
+        as-answered S valuation (λ ws. Judging.answerOf (judge ts (envOf ws))) (Judging.refusal 11 0)
+        ∙ ap (λ n. Judging.answered (asWords n valuation) (Accepted S ts)) (sym (trace-inputs s S ts e))
+
+-- ---- the words that the code stores
+
 module _ {valuation words : List ℕ} {count : ℕ} (d : Decoded valuation words count) where
   same-words : {R : Type 0} (S : ℕ) → S ≤ 64 → (answer : List ℕ → R) (refused : R)
       → cond (eqb (length (take count words)) S) (answer (take count words)) refused ≡ cond (eqb (length valuation) (4 * S)) (answer (wordsOf S valuation)) refused

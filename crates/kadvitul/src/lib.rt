@@ -4,9 +4,12 @@ ghost use mathlib.Core.Path.{_≡_};
 ghost use Prim.Native.Nat.{_/_, _*_, _≤_};
 ghost use lib.ListN.{length};
 ghost use lib.Seq.{sets};
-ghost use Rattle.unwind.specs.Answer.{traceAnswer};
-ghost use Rattle.slice.specs.Answer.{sliceAnswer};
-ghost use Rattle.kadvitul.specs.Interface.{wordsOf, Decoded, runBytes, judgeBytes, TraceLeft, SliceLeft};
+ghost use Rattle.kadvitul.specs.Interface.{wordsOf, runBytes, judgeBytes, RunGives, JudgeGives, TraceGives, SliceGives};
+ghost use Rattle.kadvitul.specs.Interface.{RunReply, RunOffset, RunVerdict, RunPlace, RunBackJumps};
+ghost use Rattle.kadvitul.specs.Interface.{JudgeReply, JudgeOffset, JudgeVerdict, JudgePlace};
+ghost use Rattle.kadvitul.specs.Interface.{TraceReply, TraceOffset, TraceLength};
+ghost use Rattle.kadvitul.specs.Interface.{SliceReply, SliceOffset, SliceLength, SliceMask, SliceInputs};
+ghost use Rattle.kadvitul.specs.Shown.{Decoded};
 
 // Stores `count` words of a valuation.
 fn decode(valuation: &[u8], count: usize, words: &mut [u32])
@@ -56,7 +59,7 @@ fn judge_bytes(trace: &[u8], valuation: &[u8]) -> trace::Answer
 
 #[no_mangle]
 pub extern "C" fn kadvitul_run_reply(rule: &[u8], bound: u64, valuation: &[u8]) -> u32
-    ensures { λ r. ⌜ r ≡ (runBytes (now (rule .entry)) bound (now (valuation .entry))) .reply ⌝ }
+    ensures { λ r. ⌜ RunGives RunReply (now (rule .entry)) bound (now (valuation .entry)) r ⌝ }
 {
     let a = run_bytes(rule, bound, valuation);
     a.reply
@@ -64,7 +67,7 @@ pub extern "C" fn kadvitul_run_reply(rule: &[u8], bound: u64, valuation: &[u8]) 
 
 #[no_mangle]
 pub extern "C" fn kadvitul_run_offset(rule: &[u8], bound: u64, valuation: &[u8]) -> u32
-    ensures { λ r. ⌜ r ≡ (runBytes (now (rule .entry)) bound (now (valuation .entry))) .offset ⌝ }
+    ensures { λ r. ⌜ RunGives RunOffset (now (rule .entry)) bound (now (valuation .entry)) r ⌝ }
 {
     let a = run_bytes(rule, bound, valuation);
     a.offset
@@ -72,7 +75,7 @@ pub extern "C" fn kadvitul_run_offset(rule: &[u8], bound: u64, valuation: &[u8])
 
 #[no_mangle]
 pub extern "C" fn kadvitul_run_verdict(rule: &[u8], bound: u64, valuation: &[u8]) -> u32
-    ensures { λ r. ⌜ r ≡ (runBytes (now (rule .entry)) bound (now (valuation .entry))) .verdict ⌝ }
+    ensures { λ r. ⌜ RunGives RunVerdict (now (rule .entry)) bound (now (valuation .entry)) r ⌝ }
 {
     let a = run_bytes(rule, bound, valuation);
     a.verdict
@@ -80,7 +83,7 @@ pub extern "C" fn kadvitul_run_verdict(rule: &[u8], bound: u64, valuation: &[u8]
 
 #[no_mangle]
 pub extern "C" fn kadvitul_run_place(rule: &[u8], bound: u64, valuation: &[u8]) -> u32
-    ensures { λ r. ⌜ r ≡ (runBytes (now (rule .entry)) bound (now (valuation .entry))) .place ⌝ }
+    ensures { λ r. ⌜ RunGives RunPlace (now (rule .entry)) bound (now (valuation .entry)) r ⌝ }
 {
     let a = run_bytes(rule, bound, valuation);
     a.place
@@ -88,7 +91,7 @@ pub extern "C" fn kadvitul_run_place(rule: &[u8], bound: u64, valuation: &[u8]) 
 
 #[no_mangle]
 pub extern "C" fn kadvitul_run_back_jumps(rule: &[u8], bound: u64, valuation: &[u8]) -> u32
-    ensures { λ r. ⌜ r ≡ (runBytes (now (rule .entry)) bound (now (valuation .entry))) .«back_jumps» ⌝ }
+    ensures { λ r. ⌜ RunGives RunBackJumps (now (rule .entry)) bound (now (valuation .entry)) r ⌝ }
 {
     let a = run_bytes(rule, bound, valuation);
     a.back_jumps
@@ -96,7 +99,7 @@ pub extern "C" fn kadvitul_run_back_jumps(rule: &[u8], bound: u64, valuation: &[
 
 #[no_mangle]
 pub extern "C" fn kadvitul_judge_reply(trace: &[u8], valuation: &[u8]) -> u32
-    ensures { λ r. ⌜ r ≡ (judgeBytes (now (trace .entry)) (now (valuation .entry))) .reply ⌝ }
+    ensures { λ r. ⌜ JudgeGives JudgeReply (now (trace .entry)) (now (valuation .entry)) r ⌝ }
 {
     let a = judge_bytes(trace, valuation);
     a.reply
@@ -104,7 +107,7 @@ pub extern "C" fn kadvitul_judge_reply(trace: &[u8], valuation: &[u8]) -> u32
 
 #[no_mangle]
 pub extern "C" fn kadvitul_judge_offset(trace: &[u8], valuation: &[u8]) -> u32
-    ensures { λ r. ⌜ r ≡ (judgeBytes (now (trace .entry)) (now (valuation .entry))) .offset ⌝ }
+    ensures { λ r. ⌜ JudgeGives JudgeOffset (now (trace .entry)) (now (valuation .entry)) r ⌝ }
 {
     let a = judge_bytes(trace, valuation);
     a.offset
@@ -112,7 +115,7 @@ pub extern "C" fn kadvitul_judge_offset(trace: &[u8], valuation: &[u8]) -> u32
 
 #[no_mangle]
 pub extern "C" fn kadvitul_judge_verdict(trace: &[u8], valuation: &[u8]) -> u32
-    ensures { λ r. ⌜ r ≡ (judgeBytes (now (trace .entry)) (now (valuation .entry))) .verdict ⌝ }
+    ensures { λ r. ⌜ JudgeGives JudgeVerdict (now (trace .entry)) (now (valuation .entry)) r ⌝ }
 {
     let a = judge_bytes(trace, valuation);
     a.verdict
@@ -120,7 +123,7 @@ pub extern "C" fn kadvitul_judge_verdict(trace: &[u8], valuation: &[u8]) -> u32
 
 #[no_mangle]
 pub extern "C" fn kadvitul_judge_place(trace: &[u8], valuation: &[u8]) -> u32
-    ensures { λ r. ⌜ r ≡ (judgeBytes (now (trace .entry)) (now (valuation .entry))) .place ⌝ }
+    ensures { λ r. ⌜ JudgeGives JudgePlace (now (trace .entry)) (now (valuation .entry)) r ⌝ }
 {
     let a = judge_bytes(trace, valuation);
     a.place
@@ -128,7 +131,7 @@ pub extern "C" fn kadvitul_judge_place(trace: &[u8], valuation: &[u8]) -> u32
 
 #[no_mangle]
 pub extern "C" fn kadvitul_trace_reply(rule: &[u8], bound: u64, out: &mut [u8]) -> u32
-    ensures { λ r. ⌜ (r ≡ (traceAnswer (now (rule .entry)) bound (length (now (out .entry)))) .reply) × TraceLeft (now (rule .entry)) bound (now (out .entry)) (now (out .exit)) ⌝ }
+    ensures { λ r. ⌜ TraceGives TraceReply (now (rule .entry)) bound (now (out .entry)) (now (out .exit)) r ⌝ }
 {
     let a = unwind::write_trace(rule, bound, out);
     a.reply
@@ -136,7 +139,7 @@ pub extern "C" fn kadvitul_trace_reply(rule: &[u8], bound: u64, out: &mut [u8]) 
 
 #[no_mangle]
 pub extern "C" fn kadvitul_trace_offset(rule: &[u8], bound: u64, out: &mut [u8]) -> u32
-    ensures { λ r. ⌜ (r ≡ (traceAnswer (now (rule .entry)) bound (length (now (out .entry)))) .offset) × TraceLeft (now (rule .entry)) bound (now (out .entry)) (now (out .exit)) ⌝ }
+    ensures { λ r. ⌜ TraceGives TraceOffset (now (rule .entry)) bound (now (out .entry)) (now (out .exit)) r ⌝ }
 {
     let a = unwind::write_trace(rule, bound, out);
     a.offset
@@ -144,7 +147,7 @@ pub extern "C" fn kadvitul_trace_offset(rule: &[u8], bound: u64, out: &mut [u8])
 
 #[no_mangle]
 pub extern "C" fn kadvitul_trace_length(rule: &[u8], bound: u64, out: &mut [u8]) -> u32
-    ensures { λ r. ⌜ (r ≡ length ((traceAnswer (now (rule .entry)) bound (length (now (out .entry)))) .bytes)) × TraceLeft (now (rule .entry)) bound (now (out .entry)) (now (out .exit)) ⌝ }
+    ensures { λ r. ⌜ TraceGives TraceLength (now (rule .entry)) bound (now (out .entry)) (now (out .exit)) r ⌝ }
 {
     let a = unwind::write_trace(rule, bound, out);
     a.length
@@ -152,7 +155,7 @@ pub extern "C" fn kadvitul_trace_length(rule: &[u8], bound: u64, out: &mut [u8])
 
 #[no_mangle]
 pub extern "C" fn kadvitul_slice_reply(trace: &[u8], out: &mut [u8]) -> u32
-    ensures { λ r. ⌜ (r ≡ (sliceAnswer (now (trace .entry)) (length (now (out .entry)))) .reply) × SliceLeft (now (trace .entry)) (now (out .entry)) (now (out .exit)) ⌝ }
+    ensures { λ r. ⌜ SliceGives SliceReply (now (trace .entry)) (now (out .entry)) (now (out .exit)) r ⌝ }
 {
     let a = slice::slice_trace(trace, out);
     a.reply
@@ -160,7 +163,7 @@ pub extern "C" fn kadvitul_slice_reply(trace: &[u8], out: &mut [u8]) -> u32
 
 #[no_mangle]
 pub extern "C" fn kadvitul_slice_offset(trace: &[u8], out: &mut [u8]) -> u32
-    ensures { λ r. ⌜ (r ≡ (sliceAnswer (now (trace .entry)) (length (now (out .entry)))) .offset) × SliceLeft (now (trace .entry)) (now (out .entry)) (now (out .exit)) ⌝ }
+    ensures { λ r. ⌜ SliceGives SliceOffset (now (trace .entry)) (now (out .entry)) (now (out .exit)) r ⌝ }
 {
     let a = slice::slice_trace(trace, out);
     a.offset
@@ -168,7 +171,7 @@ pub extern "C" fn kadvitul_slice_offset(trace: &[u8], out: &mut [u8]) -> u32
 
 #[no_mangle]
 pub extern "C" fn kadvitul_slice_length(trace: &[u8], out: &mut [u8]) -> u32
-    ensures { λ r. ⌜ (r ≡ length ((sliceAnswer (now (trace .entry)) (length (now (out .entry)))) .bytes)) × SliceLeft (now (trace .entry)) (now (out .entry)) (now (out .exit)) ⌝ }
+    ensures { λ r. ⌜ SliceGives SliceLength (now (trace .entry)) (now (out .entry)) (now (out .exit)) r ⌝ }
 {
     let a = slice::slice_trace(trace, out);
     a.length
@@ -176,7 +179,7 @@ pub extern "C" fn kadvitul_slice_length(trace: &[u8], out: &mut [u8]) -> u32
 
 #[no_mangle]
 pub extern "C" fn kadvitul_slice_mask(trace: &[u8], out: &mut [u8]) -> u64
-    ensures { λ r. ⌜ (r ≡ (sliceAnswer (now (trace .entry)) (length (now (out .entry)))) .mask) × SliceLeft (now (trace .entry)) (now (out .entry)) (now (out .exit)) ⌝ }
+    ensures { λ r. ⌜ SliceGives SliceMask (now (trace .entry)) (now (out .entry)) (now (out .exit)) r ⌝ }
 {
     let a = slice::slice_trace(trace, out);
     a.mask
@@ -184,7 +187,7 @@ pub extern "C" fn kadvitul_slice_mask(trace: &[u8], out: &mut [u8]) -> u64
 
 #[no_mangle]
 pub extern "C" fn kadvitul_slice_inputs(trace: &[u8], out: &mut [u8]) -> u32
-    ensures { λ r. ⌜ (r ≡ (sliceAnswer (now (trace .entry)) (length (now (out .entry)))) .inputs) × SliceLeft (now (trace .entry)) (now (out .entry)) (now (out .exit)) ⌝ }
+    ensures { λ r. ⌜ SliceGives SliceInputs (now (trace .entry)) (now (out .entry)) (now (out .exit)) r ⌝ }
 {
     let a = slice::slice_trace(trace, out);
     a.inputs

@@ -22,7 +22,7 @@ judge-requires : tie.Need-judge-requires
 judge-requires c κs = search needs
 
 returns : tie.Need-returns
-returns c = c .judge .ensures ∙ judge-words (c .before .before .before .words-in .ensures) (c .before .before .before .before .before .before .before .args .trace .now)
+returns c = c .judge .ensures .answer ∙ judge-words (c .before .before .before .words-in .ensures) (c .before .before .before .before .before .before .before .args .trace .now)
 
 pub judge-bytes-spec : {M : Type 1} → statement M
 judge-bytes-spec =

@@ -1,4 +1,5 @@
 use mathlib.Core.Path.{ap}
+use Rattle.kadvitul.specs.Interface.{JudgeVerdict, judgeNumber}
 use borrow.Author.Needs.{needs}
 use Rattle.kadvitul.proofs.kadvitul_judge_verdict.Statement.{statement}
 use Rattle.kadvitul.proofs.kadvitul_judge_verdict.Tie as tie
@@ -7,7 +8,7 @@ judge-bytes-requires : tie.Need-judge-bytes-requires
 judge-bytes-requires c κs = search needs
 
 returns : tie.Need-returns
-returns c = ap (λ a. a .verdict) (c .judge-bytes .ensures)
+returns c = record { number = ap (judgeNumber JudgeVerdict) (c .judge-bytes .ensures) }
 
 pub kadvitul-judge-verdict-spec : {M : Type 1} → statement M
 kadvitul-judge-verdict-spec = tie.close (tie.spec judge-bytes-requires returns)

@@ -1,4 +1,5 @@
 use mathlib.Core.Path.{ap}
+use Rattle.kadvitul.specs.Interface.{RunOffset, runNumber}
 use borrow.Author.Needs.{needs}
 use Rattle.kadvitul.proofs.kadvitul_run_offset.Statement.{statement}
 use Rattle.kadvitul.proofs.kadvitul_run_offset.Tie as tie
@@ -7,7 +8,7 @@ run-bytes-requires : tie.Need-run-bytes-requires
 run-bytes-requires c κs = search needs
 
 returns : tie.Need-returns
-returns c = ap (λ a. a .offset) (c .run-bytes .ensures)
+returns c = record { number = ap (runNumber RunOffset) (c .run-bytes .ensures) }
 
 pub kadvitul-run-offset-spec : {M : Type 1} → statement M
 kadvitul-run-offset-spec = tie.close (tie.spec run-bytes-requires returns)

@@ -10,7 +10,7 @@ same-length : tie.Need-same-length
 same-length c = search needs
 
 returns : tie.Need-returns
-returns c = let w = c .before .before .write-trace .ensures in (ap (λ a. a .reply) (w .answer), w .buffer)
+returns c = let w = c .before .before .write-trace .ensures in record { number = ap (λ a. a .reply) (w .answer); buffer = w .buffer }
 
 pub kadvitul-trace-reply-spec : {M : Type 1} → statement M
 kadvitul-trace-reply-spec = tie.close (tie.spec write-trace-requires same-length returns)

@@ -22,7 +22,7 @@ run-requires : tie.Need-run-requires
 run-requires c κs = search needs
 
 returns : tie.Need-returns
-returns c = c .run .ensures ∙ run-words (c .before .before .before .words-in .ensures) (c .before .before .before .before .before .before .before .args .rule .now) (c .before .before .before .before .before .before .before .args .bound)
+returns c = c .run .ensures .answer ∙ run-words (c .before .before .before .words-in .ensures) (c .before .before .before .before .before .before .before .args .rule .now) (c .before .before .before .before .before .before .before .args .bound)
 
 pub run-bytes-spec : {M : Type 1} → statement M
 run-bytes-spec =

@@ -1,0 +1,13 @@
+-- What the code's values mean: its answers as functions of the definitions.
+use Prim.Native.Nat.{ℕ, _*_, _≤_, _<_}
+use mathlib.Core.Path.{_≡_}
+use mathlib.Core.List.{List}
+use lib.ListN.{length, take}
+use Rattle.kadvitul.specs.Interface.{wordsOf}
+
+-- the words that stand before the first `count` of an array: all of a valuation, or 65 for one that is of no file
+pub record Decoded (valuation words : List ℕ) (count : ℕ) : Type 0 where
+  pub room : length words ≡ 65
+  pub most : count ≤ 65
+  pub whole : count ≤ 64 → (length valuation ≡ 4 * count) × (take count words ≡ wordsOf count valuation)
+  pub none : 64 < count → (c : ℕ) → c ≤ 64 → length valuation ≡ 4 * c → ⊥
