@@ -5,22 +5,20 @@
 --   violated, and all three name one and the same place. Two valuations that agree on the inputs the slice reports as read get one verdict
 --   and one place."
 --
--- It is stated over bytes and over the answers that the public calls are proved to give: `runAnswer` of `run`, `judgeAnswer` of `judge`,
--- `traceAnswer` of `write_trace`, `sliceAnswer` of `slice_trace`. A valuation is a list of numbers, one for each of the S inputs of the
--- table's header; that they are words is not needed. Demand3Proof proves `Demand3` for every table, bound and room for which writing the
--- trace answers 0.
+-- It is stated over bytes and over the answers that the public calls are proved to give: running and judging with a valuation as words
+-- or as bytes (`ranWith`, `judgedWith`), `traceAnswer` of writing a trace, `sliceAnswer` of slicing. That the numbers of a valuation are
+-- words, or bytes, is not needed. Demand3Proof proves `Demand3` for every table, bound and room for which writing the trace answers 0.
 use Prim.Native.Nat.{ℕ, _≤_, _<_}
 use mathlib.Core.Path.{_≡_}
 use mathlib.Core.Logic.{_↔_}
 use mathlib.Core.List.{List}
-use lib.ListN.{length, getD}
+use lib.ListN.{length}
 use Rattle.expr.specs.Word.{bit}
 use Rattle.file.specs.File.{headerInputs}
 use Rattle.table.specs.declared.Answer as Ran
-use Rattle.table.specs.Answer.{runAnswer}
 use Rattle.trace.specs.declared.Answer as Judged
-use Rattle.trace.specs.Answer.{judgeAnswer}
 use Rattle.slice.specs.Answer.{Sliced, sliceAnswer}
+use Rattle.demands.specs.Valuation.{Handed, lengthFor, inputIn, ranWith, judgedWith}
 
 -- ---- what an answer says
 
@@ -41,30 +39,30 @@ OneVerdict a a′ = (a .verdict ≡ a′ .verdict) × (a .place ≡ a′ .place)
 -- ---- run, trace and slice
 
 -- two valuations of the table's inputs that agree on those whose bits are set in a mask
-pub record AgreeOn (S mask : ℕ) (v w : List ℕ) : Type 0 where
-  pub first-length : length v ≡ S
-  pub second-length : length w ≡ S
-  pub read-inputs : (s : ℕ) → s < S → bit s mask ≡ 1 → getD v s 0 ≡ getD w s 0
+pub record AgreeOn (h : Handed) (S mask : ℕ) (v w : List ℕ) : Type 0 where
+  pub first-length : length v ≡ lengthFor h S
+  pub second-length : length w ≡ lengthFor h S
+  pub read-inputs : (s : ℕ) → s < S → bit s mask ≡ 1 → inputIn h v s ≡ inputIn h w s
 
 -- the table's bytes b under bound K, the trace's bytes t, and the answer q to slicing them
-pub record OneAnswer (b : List ℕ) (K : ℕ) (t : List ℕ) (q : Sliced) : Type 0 where
+pub record OneAnswer (h : Handed) (b : List ℕ) (K : ℕ) (t : List ℕ) (q : Sliced) : Type 0 where
   -- a valuation of the right length is not refused: not by running, nor by judging the trace, nor by judging its slice
-  pub none-refused : (v : List ℕ) → length v ≡ headerInputs b
-      → ((runAnswer b K v) .reply ≡ 0) × ((judgeAnswer t v) .reply ≡ 0) × ((judgeAnswer (q .bytes) v) .reply ≡ 0)
+  pub none-refused : (v : List ℕ) → length v ≡ lengthFor h (headerInputs b)
+      → ((ranWith h b K v) .reply ≡ 0) × ((judgedWith h t v) .reply ≡ 0) × ((judgedWith h (q .bytes) v) .reply ≡ 0)
   -- the table reaches a failing assertion exactly if the whole trace is violated, at one and the same place (for every valuation: one of
   -- a wrong length is refused by all three, and unsafe by none)
-  pub run-trace : (v : List ℕ) (p : ℕ) → RunUnsafeAt p (runAnswer b K v) ↔ UnsafeAt p (judgeAnswer t v)
+  pub run-trace : (v : List ℕ) (p : ℕ) → RunUnsafeAt p (ranWith h b K v) ↔ UnsafeAt p (judgedWith h t v)
   -- and exactly if its slice is violated, at that same place
-  pub run-slice : (v : List ℕ) (p : ℕ) → RunUnsafeAt p (runAnswer b K v) ↔ UnsafeAt p (judgeAnswer (q .bytes) v)
+  pub run-slice : (v : List ℕ) (p : ℕ) → RunUnsafeAt p (ranWith h b K v) ↔ UnsafeAt p (judgedWith h (q .bytes) v)
   -- two valuations that agree on the inputs that the slice reports as read get one verdict and one place, from all three
-  pub read-decides : (v w : List ℕ) → AgreeOn (headerInputs b) (q .mask) v w
-      → RunOneVerdict (runAnswer b K v) (runAnswer b K w)
-      × OneVerdict (judgeAnswer t v) (judgeAnswer t w)
-      × OneVerdict (judgeAnswer (q .bytes) v) (judgeAnswer (q .bytes) w)
+  pub read-decides : (v w : List ℕ) → AgreeOn h (headerInputs b) (q .mask) v w
+      → RunOneVerdict (ranWith h b K v) (ranWith h b K w)
+      × OneVerdict (judgedWith h t v) (judgedWith h t w)
+      × OneVerdict (judgedWith h (q .bytes) v) (judgedWith h (q .bytes) w)
 
 -- t is the trace that is written of the table b under bound K
 pub record Demand3 (b : List ℕ) (K : ℕ) (t : List ℕ) : Type 0 where
   -- slicing it refuses nothing, given as much room as the trace takes
   pub sliced : (room : ℕ) → length t ≤ room → (sliceAnswer t room) .reply ≡ 0
-  -- and whenever it is sliced, in whatever room, run, trace and slice answer alike
-  pub alike : (room : ℕ) → (sliceAnswer t room) .reply ≡ 0 → OneAnswer b K t (sliceAnswer t room)
+  -- and whenever it is sliced, in whatever room, run, trace and slice answer alike, for valuations of words and of bytes
+  pub alike : (h : Handed) (room : ℕ) → (sliceAnswer t room) .reply ≡ 0 → OneAnswer h b K t (sliceAnswer t room)

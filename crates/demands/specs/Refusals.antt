@@ -1,14 +1,14 @@
 -- Document 01, "Numbered replies": a refusal's other numbers are 0 and safe, and its buffer is as it was; a safe verdict has place 0.
 use Prim.Native.Nat.{ℕ}
 use native.Mathlib.Omega.{arith}
-use mathlib.Core.Path.{_≡_, refl, ap, _∙_}
+use mathlib.Core.Path.{_≡_, refl, ap, _∙_, subst⁻¹}
 use mathlib.Core.Bool.{Bool, true, false, cond, _&&_}
 use mathlib.Core.List.{List, []}
 use lib.ListN.{length}
 use lib.Dec.{eqb, leb}
 use Rattle.expr.specs.Eval.{envOf}
 use Rattle.file.specs.Outcome.{Assume, Assert, Bound, Outcome, Ended, Failed, Lost, verdict, placeOf}
-use Rattle.file.specs.File.{Input, Accepted, Refused}
+use Rattle.file.specs.File.{headerInputs, Input, Accepted, Refused}
 use Rattle.table.specs.declared.Answer as Ran
 use Rattle.table.specs.Table.{Instr, readTable}
 use Rattle.table.specs.Run.{run}
@@ -28,6 +28,10 @@ use Rattle.slice.specs.declared.Answer as Kept
 use Rattle.slice.specs.Slice.{slice}
 use Rattle.slice.specs.Answer.{Sliced, sliceAnswer, SliceWritten}
 use Rattle.slice.specs.Answer as Slicing
+use Rattle.kadvitul.specs.Interface.{TraceNumber, TraceReply, TraceLength, traceNumber, TraceGives}
+use Rattle.kadvitul.specs.Interface.{SliceNumber, SliceReply, SliceLength, SliceMask, SliceInputs, sliceNumber, SliceGives}
+use Rattle.demands.specs.Valuation.{Handed, ranWith, judgedWith}
+use Rattle.demands.specs.ValuationLaws.{wordsIn, ran-words, judged-words}
 
 safe-place : (o : Outcome) → verdict o ≡ 0 → placeOf o ≡ 0
 safe-place Ended h = refl
@@ -45,9 +49,9 @@ pub record RunRest (a : Ran.Answer) : Type 0 where
 run-refusal : (r o : ℕ) → RunRest (Running.refusal r o)
 run-refusal r o = record { refused = λ h. (refl, refl, refl); safe = λ h. refl }
 
-pub run-rest : (table : List ℕ) (K : ℕ) (words : List ℕ) → RunRest (runAnswer table K words)
+run-words-rest : (table : List ℕ) (K : ℕ) (words : List ℕ) → RunRest (runAnswer table K words)
 unfolding runAnswer
-run-rest table K words = go (readTable table)
+run-words-rest table K words = go (readTable table)
   where
     chosen : (b c : Bool) (a : Ran.Answer) → RunRest a → RunRest (cond b (cond c a (Running.refusal 11 0)) (Running.refusal 8 0))
     chosen true true a h = h
@@ -60,6 +64,9 @@ run-rest table K words = go (readTable table)
         chosen (leb K 255) (eqb (length words) S) (Running.answerOf (run is K words))
         (record { refused = λ h. absurd (h refl); safe = safe-place ((run is K words) .outcome) })
 
+pub run-rest : (h : Handed) (table : List ℕ) (K : ℕ) (valuation : List ℕ) → RunRest (ranWith h table K valuation)
+run-rest h table K v = subst⁻¹ RunRest (ran-words h table K v) (run-words-rest table K (wordsIn h (headerInputs table) v))
+
 -- ---- judging
 
 pub record JudgeRest (a : Judged.Answer) : Type 0 where
@@ -69,9 +76,9 @@ pub record JudgeRest (a : Judged.Answer) : Type 0 where
 judge-refusal : (r o : ℕ) → JudgeRest (Judging.refusal r o)
 judge-refusal r o = record { refused = λ h. (refl, refl); safe = λ h. refl }
 
-pub judge-rest : (trace words : List ℕ) → JudgeRest (judgeAnswer trace words)
+judge-words-rest : (trace words : List ℕ) → JudgeRest (judgeAnswer trace words)
 unfolding judgeAnswer
-judge-rest trace words = go (readTrace trace)
+judge-words-rest trace words = go (readTrace trace)
   where
     chosen : (c : Bool) (a : Judged.Answer) → JudgeRest a → JudgeRest (cond c a (Judging.refusal 11 0))
     chosen true a h = h
@@ -82,6 +89,9 @@ judge-rest trace words = go (readTrace trace)
     go (Accepted S ts) =
         chosen (eqb (length words) S) (Judging.answerOf (judge ts (envOf words)))
         (record { refused = λ h. absurd (h refl); safe = safe-place (judge ts (envOf words)) })
+
+pub judge-rest : (h : Handed) (trace valuation : List ℕ) → JudgeRest (judgedWith h trace valuation)
+judge-rest h trace v = subst⁻¹ JudgeRest (judged-words h trace v) (judge-words-rest trace (wordsIn h (headerInputs trace) v))
 
 -- ---- writing a trace
 
@@ -115,6 +125,13 @@ write-trace-rest table K out out′ r w h = (ap (λ a. a .length) (w .answer) �
     empty : (traceAnswer table K (length out)) .bytes ≡ []
     empty = trace-empty table K (length out) (λ e. h (ap (λ a. a .reply) (w .answer) ∙ e))
 
+-- the calls from C: each leaves a buffer as it was where the reply, which is the number of one of them, is not 0; the length is 0 then
+pub trace-gives-rest : (which : TraceNumber) (table : List ℕ) (K : ℕ) (out out′ : List ℕ) (r : ℕ) → TraceGives which table K out out′ r
+    → (traceNumber TraceReply (traceAnswer table K (length out)) ≡ 0 → ⊥) → (out′ ≡ out) × (traceNumber TraceLength (traceAnswer table K (length out)) ≡ 0)
+trace-gives-rest which table K out out′ r w h =
+    let empty = trace-empty table K (length out) h in
+    (w .buffer ∙ ap (λ bs. over bs out) empty, ap length empty)
+
 -- ---- slicing
 
 abbrev Nothing : Sliced → Type 0
@@ -144,3 +161,11 @@ slice-trace-rest trace out out′ r w h = (
   where
     empty : Nothing (sliceAnswer trace (length out))
     empty = slice-empty trace (length out) (λ e. h (ap (λ a. a .reply) (w .answer) ∙ e))
+
+pub slice-gives-rest : (which : SliceNumber) (trace out out′ : List ℕ) (r : ℕ) → SliceGives which trace out out′ r
+    → (sliceNumber SliceReply (sliceAnswer trace (length out)) ≡ 0 → ⊥)
+    → (out′ ≡ out) × (sliceNumber SliceLength (sliceAnswer trace (length out)) ≡ 0) × (sliceNumber SliceMask (sliceAnswer trace (length out)) ≡ 0)
+    × (sliceNumber SliceInputs (sliceAnswer trace (length out)) ≡ 0)
+slice-gives-rest which trace out out′ r w h =
+    let empty = slice-empty trace (length out) h in
+    (w .buffer ∙ ap (λ bs. over bs out) (empty .0), ap length (empty .0), empty .1, empty .2)

@@ -23,6 +23,7 @@ use Rattle.table.specs.Table.{readTable}
 use Rattle.trace.specs.Trace.{readTrace, encodeTrace}
 use Rattle.unwind.specs.Unwind.{unwind}
 use Rattle.slice.specs.Slice.{slice}
+use Rattle.demands.specs.Valuation.{Handed, lengthFor}
 
 -- ---- where things stand
 
@@ -100,22 +101,22 @@ pub data Ruling : (F : File) (s : List ℕ) (k at : ℕ) → Type 0 where
 pub data Wording (F : File) (s : List ℕ) (k at : ℕ) : Type 0 where
   no-expression : (m : ℕ) → fields F (kindAt s at) ≡ some m → (IsExpr F (mayRead F s k) (exprAt s at m) → ⊥) → Wording F s k at
 
--- a call, with all that it is given; a buffer by its room
+-- a call, with all that it is given: a valuation as words or as bytes, a buffer by its room
 pub data Call : Type 0 where
-  Run : (table : List ℕ) (K : ℕ) (words : List ℕ) → Call
-  Judge : (trace words : List ℕ) → Call
+  Run : Handed → (table : List ℕ) (K : ℕ) (valuation : List ℕ) → Call
+  Judge : Handed → (trace valuation : List ℕ) → Call
   WriteTrace : (table : List ℕ) (K room : ℕ) → Call
   SliceTrace : (trace : List ℕ) (room : ℕ) → Call
 
 abbrev pub fileOf : Call → File
-fileOf (Run t K v) = Table
-fileOf (Judge t v) = Trace
+fileOf (Run h t K v) = Table
+fileOf (Judge h t v) = Trace
 fileOf (WriteTrace t K room) = Table
 fileOf (SliceTrace t room) = Trace
 
 abbrev pub bytesOf : Call → List ℕ
-bytesOf (Run t K v) = t
-bytesOf (Judge t v) = t
+bytesOf (Run h t K v) = t
+bytesOf (Judge h t v) = t
 bytesOf (WriteTrace t K room) = t
 bytesOf (SliceTrace t room) = t
 
@@ -156,8 +157,8 @@ offset s Valuation = 0
 
 -- the bytes that a call would write
 abbrev pub result : Call → List ℕ
-result (Run t K v) = []
-result (Judge t v) = []
+result (Run h t K v) = []
+result (Judge h t v) = []
 result (WriteTrace t K room) = encodeTrace (headerInputs t) (unwind Assume (headerInputs t) (listed (readTable t)) K)
 result (SliceTrace t room) = encodeTrace (headerInputs t) (slice (listed (readTrace t)))
 
@@ -171,21 +172,21 @@ When c (Frame k) = (k < headerCount (bytesOf c)) × Framing (fileOf c) (bytesOf 
 When c (Rule k) = (k < headerCount (bytesOf c)) × Ruling (fileOf c) (bytesOf c) k (recordAt (bytesOf c) k)
 When c (Expression k) = (k < headerCount (bytesOf c)) × Wording (fileOf c) (bytesOf c) k (recordAt (bytesOf c) k)
 When c Spare = recordAt (bytesOf c) (headerCount (bytesOf c)) < length (bytesOf c)
-When (Run t K v) Bound = 255 < K
-When (Judge t v) Bound = ⊥
+When (Run h t K v) Bound = 255 < K
+When (Judge h t v) Bound = ⊥
 When (WriteTrace t K room) Bound = 255 < K
 When (SliceTrace t room) Bound = ⊥
-When (Run t K v) Size = ⊥
-When (Judge t v) Size = ⊥
+When (Run h t K v) Size = ⊥
+When (Judge h t v) Size = ⊥
 When (WriteTrace t K room) Size =
     (length (unwind Assume (headerInputs t) (listed (readTable t)) K) ≤ 4096) × (length (result (WriteTrace t K room)) ≤ 65535) → ⊥
 When (SliceTrace t room) Size = ⊥
-When (Run t K v) Room = ⊥
-When (Judge t v) Room = ⊥
+When (Run h t K v) Room = ⊥
+When (Judge h t v) Room = ⊥
 When (WriteTrace t K room) Room = room < length (result (WriteTrace t K room))
 When (SliceTrace t room) Room = room < length (result (SliceTrace t room))
-When (Run t K v) Valuation = length v ≡ headerInputs t → ⊥
-When (Judge t v) Valuation = length v ≡ headerInputs t → ⊥
+When (Run h t K v) Valuation = length v ≡ lengthFor h (headerInputs t) → ⊥
+When (Judge h t v) Valuation = length v ≡ lengthFor h (headerInputs t) → ⊥
 When (WriteTrace t K room) Valuation = ⊥
 When (SliceTrace t room) Valuation = ⊥
 

@@ -1,4 +1,4 @@
--- Demand 1 is true of the four calls' answers. The steps, and why each is:
+-- Demand 1 is true of the calls' answers, the calls from C too. The steps, and why each is:
 --
 -- 1. The order is an order. The rows that can hold have ranks of their own (`RowOrder`), so two rows that are both first are one row; and
 --    a file is cleared of its rows one rank after the other. Hence a call that answers with the number and offset of a first row, or with 0
@@ -13,7 +13,7 @@
 -- 4. What a call tests after its file was accepted are its own rows, in their order, with S the header's and the list that was read.
 use Prim.Native.Nat.{ℕ, _+_, _*_, _<_}
 use native.Mathlib.Omega.{arith}
-use mathlib.Core.Path.{_≡_, refl, sym, ap, ap₂, _∙_}
+use mathlib.Core.Path.{_≡_, refl, sym, ap, ap₂, _∙_, subst⁻¹}
 use mathlib.Core.Bool.{Bool, true, false, cond, _&&_}
 use mathlib.Core.List.{List}
 use lib.ListN.{length}
@@ -23,13 +23,14 @@ use Rattle.expr.specs.Lists.{All, and-both, both-and}
 use Rattle.expr.specs.Number.{Byte}
 use Rattle.file.specs.Outcome.{Assume, Outcome}
 use Rattle.file.specs.File.{headerInputs, headerCount, Input, Accepted, Refused}
-use Rattle.file.specs.FileLaws.{file-is}
 use Rattle.file.specs.Shown.{listed}
-use Rattle.table.specs.Table.{Instr, instrs, readTable}
+use Rattle.table.specs.Table.{Instr, readTable}
+use Rattle.table.specs.TableLaws.{table-inputs}
 use Rattle.table.specs.Run.{Ran, run}
 use Rattle.table.specs.Answer as Running
 use Rattle.table.specs.Answer.{runAnswer}
-use Rattle.trace.specs.Trace.{Stmt, stmts, readTrace, encodeTrace}
+use Rattle.trace.specs.Trace.{Stmt, readTrace, encodeTrace}
+use Rattle.trace.specs.TraceLaws.{trace-inputs}
 use Rattle.trace.specs.Judge.{judge}
 use Rattle.trace.specs.Answer as Judging
 use Rattle.trace.specs.Answer.{judgeAnswer}
@@ -40,6 +41,8 @@ use Rattle.slice.specs.Slice.{slice}
 use Rattle.slice.specs.Answer as Slicing
 use Rattle.slice.specs.Answer.{sliceAnswer}
 use Rattle.expr.specs.Eval.{envOf}
+use Rattle.demands.specs.Valuation.{Handed, ranWith, judgedWith}
+use Rattle.demands.specs.ValuationLaws.{wordsIn, words-length, ran-words, judged-words}
 use Rattle.demands.specs.Replies.{Call, Run, Judge, WriteTrace, SliceTrace, bytesOf, Row, Short, Version, Total, Limits, Frame, Rule, Expression, Spare, Bound, Size, Room, Valuation, number, offset, result, When, rank, Demand1}
 use Rattle.demands.specs.RowOrder.{first-same, Clear, clear-past, clear-all}
 use Rattle.demands.specs.FileReplies.{RefusedBy, FileReply, table-reply, trace-reply}
@@ -101,67 +104,74 @@ module _ (c : Call) where
   no-valuation : Clear c (8 + 3 * headerCount (bytesOf c)) → (When c Valuation → ⊥) → (row : Row) → When c row → ⊥
   no-valuation clear h = clear-all c (clear-past c Valuation (9 + 3 * n) tt (omega arith) clear h)
 
--- an accepted file's inputs are its header's
-table-inputs : (t : List ℕ) (S : ℕ) (is : List Instr) → readTable t ≡ Accepted S is → headerInputs t ≡ S
-unfolding readTable
-table-inputs t S is q = file-is 1 1024 instrs t S is q .inputs
-
-trace-inputs : (t : List ℕ) (S : ℕ) (ts : List Stmt) → readTrace t ≡ Accepted S ts → headerInputs t ≡ S
-unfolding readTrace
-trace-inputs t S ts q = file-is 129 4096 stmts t S ts q .inputs
-
 -- ---- running: 8 and 11
 
-module _ (t : List ℕ) (K : ℕ) (v : List ℕ) where
-  run-tested : (S : ℕ) → headerInputs t ≡ S → Clear (Run t K v) (5 + 3 * headerCount t)
-      → (x : Bool) → leb K 255 ≡ x → (y : Bool) → eqb (length v) S ≡ y → (a : Ran) → First (Run t K v)
+module _ (h : Handed) (t : List ℕ) (K : ℕ) (v : List ℕ) where
+  abbrev runs : Call
+  runs = Run h t K v
+
+  -- the valuation's words
+  abbrev runWords : List ℕ
+  runWords = wordsIn h (headerInputs t) v
+
+  run-tested : (S : ℕ) → headerInputs t ≡ S → Clear runs (5 + 3 * headerCount t)
+      → (x : Bool) → leb K 255 ≡ x → (y : Bool) → eqb (length runWords) S ≡ y → (a : Ran) → First runs
       ((cond x (cond y (Running.answerOf a) (Running.refusal 11 0)) (Running.refusal 8 0)) .reply)
       ((cond x (cond y (Running.answerOf a) (Running.refusal 11 0)) (Running.refusal 8 0)) .offset)
-  run-tested S i clear false e y f a = at-row (Run t K v) Bound clear (leb-false K 255 e)
+  run-tested S i clear false e y f a = at-row runs Bound clear (leb-false K 255 e)
   run-tested S i clear true e y f a = go y f
     where
-      bounded : Clear (Run t K v) (8 + 3 * headerCount t)
-      bounded = no-room (Run t K v) (no-size (Run t K v) (no-bound (Run t K v) clear (λ h. omega (arith, leb-true K 255 e))) (λ h. h)) (λ h. h)
+      bounded : Clear runs (8 + 3 * headerCount t)
+      bounded = no-room runs (no-size runs (no-bound runs clear (λ l. omega (arith, leb-true K 255 e))) (λ l. l)) (λ l. l)
 
-      go : (y : Bool) → eqb (length v) S ≡ y → First (Run t K v)
+      go : (y : Bool) → eqb (length runWords) S ≡ y → First runs
           ((cond y (Running.answerOf a) (Running.refusal 11 0)) .reply) ((cond y (Running.answerOf a) (Running.refusal 11 0)) .offset)
-      go false f = at-row (Run t K v) Valuation bounded (λ h. eqb-false (length v) S f (h ∙ i))
-      go true f = no-row refl refl (no-valuation (Run t K v) bounded (λ h. h (eqb-true (length v) S f ∙ sym i)))
+      go false f = at-row runs Valuation bounded (λ l. eqb-false (length runWords) S f (words-length h (headerInputs t) v .1 l ∙ i))
+      go true f = no-row refl refl (no-valuation runs bounded (λ l. l (words-length h (headerInputs t) v .0 (eqb-true (length runWords) S f ∙ sym i))))
 
-  run-first : (i : Input Instr) → readTable t ≡ i → FileReply (Run t K v) i
-      → First (Run t K v) ((Running.answered K v i) .reply) ((Running.answered K v i) .offset)
+  run-first : (i : Input Instr) → readTable t ≡ i → FileReply runs i → First runs ((Running.answered K runWords i) .reply) ((Running.answered K runWords i) .offset)
   run-first (Refused r at) q f = some-row f
-  run-first (Accepted S is) q clear = run-tested S (table-inputs t S is q) clear (leb K 255) refl (eqb (length v) S) refl (run is K v)
+  run-first (Accepted S is) q clear = run-tested S (table-inputs t S is q) clear (leb K 255) refl (eqb (length runWords) S) refl (run is K runWords)
 
-  pub run-demand1 : All Byte t → Demand1 (Run t K v) ((runAnswer t K v) .reply) ((runAnswer t K v) .offset)
+  run-words-demand1 : All Byte t → Demand1 runs ((runAnswer t K runWords) .reply) ((runAnswer t K runWords) .offset)
   unfolding runAnswer
-  run-demand1 o =
-      first-demand (Run t K v) ((runAnswer t K v) .reply) ((runAnswer t K v) .offset) (run-first (readTable t) refl (table-reply (Run t K v) refl o))
+  run-words-demand1 o = first-demand runs ((runAnswer t K runWords) .reply) ((runAnswer t K runWords) .offset) (run-first (readTable t) refl (table-reply runs refl o))
+
+  pub run-demand1 : All Byte t → Demand1 (Run h t K v) ((ranWith h t K v) .reply) ((ranWith h t K v) .offset)
+  run-demand1 o = subst⁻¹ (λ a. Demand1 runs (a .reply) (a .offset)) (ran-words h t K v) (run-words-demand1 o)
 
 -- ---- judging: 11
 
-module _ (t v : List ℕ) where
-  judge-tested : (S : ℕ) → headerInputs t ≡ S → Clear (Judge t v) (5 + 3 * headerCount t) → (y : Bool) → eqb (length v) S ≡ y → (a : Outcome)
-      → First (Judge t v) ((cond y (Judging.answerOf a) (Judging.refusal 11 0)) .reply) ((cond y (Judging.answerOf a) (Judging.refusal 11 0)) .offset)
+module _ (h : Handed) (t v : List ℕ) where
+  abbrev judges : Call
+  judges = Judge h t v
+
+  -- the valuation's words
+  abbrev judgeWords : List ℕ
+  judgeWords = wordsIn h (headerInputs t) v
+
+  judge-tested : (S : ℕ) → headerInputs t ≡ S → Clear judges (5 + 3 * headerCount t) → (y : Bool) → eqb (length judgeWords) S ≡ y → (a : Outcome)
+      → First judges ((cond y (Judging.answerOf a) (Judging.refusal 11 0)) .reply) ((cond y (Judging.answerOf a) (Judging.refusal 11 0)) .offset)
   judge-tested S i clear y f a = go y f
     where
-      unbounded : Clear (Judge t v) (8 + 3 * headerCount t)
-      unbounded = no-room (Judge t v) (no-size (Judge t v) (no-bound (Judge t v) clear (λ h. h)) (λ h. h)) (λ h. h)
+      unbounded : Clear judges (8 + 3 * headerCount t)
+      unbounded = no-room judges (no-size judges (no-bound judges clear (λ l. l)) (λ l. l)) (λ l. l)
 
-      go : (y : Bool) → eqb (length v) S ≡ y
-          → First (Judge t v) ((cond y (Judging.answerOf a) (Judging.refusal 11 0)) .reply) ((cond y (Judging.answerOf a) (Judging.refusal 11 0)) .offset)
-      go false f = at-row (Judge t v) Valuation unbounded (λ h. eqb-false (length v) S f (h ∙ i))
-      go true f = no-row refl refl (no-valuation (Judge t v) unbounded (λ h. h (eqb-true (length v) S f ∙ sym i)))
+      go : (y : Bool) → eqb (length judgeWords) S ≡ y
+          → First judges ((cond y (Judging.answerOf a) (Judging.refusal 11 0)) .reply) ((cond y (Judging.answerOf a) (Judging.refusal 11 0)) .offset)
+      go false f = at-row judges Valuation unbounded (λ l. eqb-false (length judgeWords) S f (words-length h (headerInputs t) v .1 l ∙ i))
+      go true f = no-row refl refl (no-valuation judges unbounded (λ l. l (words-length h (headerInputs t) v .0 (eqb-true (length judgeWords) S f ∙ sym i))))
 
-  judge-first : (i : Input Stmt) → readTrace t ≡ i → FileReply (Judge t v) i
-      → First (Judge t v) ((Judging.answered v i) .reply) ((Judging.answered v i) .offset)
+  judge-first : (i : Input Stmt) → readTrace t ≡ i → FileReply judges i → First judges ((Judging.answered judgeWords i) .reply) ((Judging.answered judgeWords i) .offset)
   judge-first (Refused r at) q f = some-row f
-  judge-first (Accepted S ts) q clear = judge-tested S (trace-inputs t S ts q) clear (eqb (length v) S) refl (judge ts (envOf v))
+  judge-first (Accepted S ts) q clear = judge-tested S (trace-inputs t S ts q) clear (eqb (length judgeWords) S) refl (judge ts (envOf judgeWords))
 
-  pub judge-demand1 : All Byte t → Demand1 (Judge t v) ((judgeAnswer t v) .reply) ((judgeAnswer t v) .offset)
+  judge-words-demand1 : All Byte t → Demand1 judges ((judgeAnswer t judgeWords) .reply) ((judgeAnswer t judgeWords) .offset)
   unfolding judgeAnswer
-  judge-demand1 o =
-      first-demand (Judge t v) ((judgeAnswer t v) .reply) ((judgeAnswer t v) .offset) (judge-first (readTrace t) refl (trace-reply (Judge t v) refl o))
+  judge-words-demand1 o = first-demand judges ((judgeAnswer t judgeWords) .reply) ((judgeAnswer t judgeWords) .offset) (judge-first (readTrace t) refl (trace-reply judges refl o))
+
+  pub judge-demand1 : All Byte t → Demand1 (Judge h t v) ((judgedWith h t v) .reply) ((judgedWith h t v) .offset)
+  judge-demand1 o = subst⁻¹ (λ a. Demand1 judges (a .reply) (a .offset)) (judged-words h t v) (judge-words-demand1 o)
 
 -- ---- writing a trace: 8, 9 and 10
 
