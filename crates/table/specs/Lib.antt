@@ -3,6 +3,7 @@ pub mod Table
 pub mod TableLaws
 pub mod Run
 pub mod RunLaws
+pub mod BackJumpLaws
 pub mod Answer
 pub mod Cases
 -- What the code's values mean in these terms.

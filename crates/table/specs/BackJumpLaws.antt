@@ -1,0 +1,154 @@
+-- The back jumps of a run, counted once more: not on the way, but over the list of the instructions that the run comes to. Every run, be it
+-- ended, failed or stopped by the bound, answers that count. Of a table that is read it is at most K for all its loops together; and where
+-- K are enough for all of them, a greater bound changes nothing.
+use Prim.Native.Nat.{ℕ, zero, suc, _+_, _*_, _≤_}
+use native.Mathlib.Omega.{arith}
+use native.Mathlib.Nat.{mul-le-mul-right}
+use mathlib.Core.Path.{_≡_, refl, sym, ap, _∙_, subst}
+use mathlib.Core.Bool.{Bool, true, false, cond}
+use mathlib.Core.List.{List, [], _∷_}
+use lib.ListN.{length, drop}
+use lib.Dec.{leb, ltb}
+use borrow.Author.Tests.{lt-leb, ltb-true, ltb-false}
+use Rattle.expr.specs.Lists.{All}
+use Rattle.expr.specs.Word.{truthy, test}
+use Rattle.expr.specs.Eval.{Env, envOf, update, value}
+use Rattle.file.specs.Outcome.{Bound, Failed}
+use Rattle.table.specs.Table.{Instr, Assign, Test, IfThenGoto}
+use Rattle.table.specs.TableLaws.{InstrOk}
+use Rattle.table.specs.Run.{placeIn, Next, Halt, Go, jump, stepAt, onward, runFrom, run}
+use Rattle.table.specs.RunLaws.{run-placed, run-fuel}
+
+-- ---- the instructions that a run comes to, in their order
+
+abbrev pub pathOn : Next → ((i r : ℕ) → Env → List ℕ) → List ℕ
+pathOn (Halt o) rest = []
+pathOn (Go i r ρ) rest = rest i r ρ
+
+-- from instruction i on; n is the last where the run comes past the last instruction
+abbrev pub pathFrom : (is : List Instr) (K fuel i r : ℕ) → Env → List ℕ
+pathFrom is K zero i r ρ = i ∷ []
+pathFrom is K (suc fuel) i r ρ = i ∷ pathOn (stepAt (length is) K i r (drop i is) ρ) (pathFrom is K fuel)
+
+abbrev pub path : List Instr → (K : ℕ) → (words : List ℕ) → List ℕ
+path is K words = pathFrom is K (suc K * suc (length is)) 0 0 (envOf words)
+
+-- of the steps from each to the next, those to an instruction at or before the one that they leave
+abbrev pub backSteps : List ℕ → ℕ
+backSteps [] = 0
+backSteps (i ∷ []) = 0
+backSteps (i ∷ j ∷ p) = test (leb j i) + backSteps (j ∷ p)
+
+-- ---- a step counts as it goes
+
+abbrev Counts : (i r : ℕ) → Next → Type 0
+Counts i r (Halt o) = Unit {0}
+Counts i r (Go j q ρ) = q ≡ r + test (leb j i)
+
+module _ (n K i r : ℕ) where
+  cond-counts : (b : Bool) (x y : Next) → Counts i r x → Counts i r y → Counts i r (cond b x y)
+  cond-counts true x y p q = p
+  cond-counts false x y p q = q
+
+  onwards : (ρ : Env) → Counts i r (Go (suc i) r ρ)
+  onwards ρ = rw (lt-leb (suc i) i (omega arith)) (omega arith)
+
+  jump-counts : (t : ℕ) (ρ : Env) → Counts i r (jump n K i r t ρ)
+  jump-counts t ρ = go (leb t i) refl
+    where
+      go : (b : Bool) → leb t i ≡ b → Counts i r (cond b (cond (ltb r K) (Go t (suc r) ρ) (Halt (Failed Bound (placeIn n r i)))) (Go t r ρ))
+      go true e = cond-counts (ltb r K) _ _ (rw e (omega arith)) tt
+      go false e = rw e (omega arith)
+
+  step-counts : (xs : List Instr) (ρ : Env) → Counts i r (stepAt n K i r xs ρ)
+  step-counts [] ρ = tt
+  step-counts (Assign s e ∷ xs) ρ = onwards (update ρ s (value ρ e))
+  step-counts (Test k e ∷ xs) ρ = cond-counts (truthy (value ρ e)) _ _ (onwards ρ) tt
+  step-counts (IfThenGoto t e ∷ xs) ρ = cond-counts (truthy (value ρ e)) _ _ (jump-counts t ρ) (onwards ρ)
+
+-- ---- and so does a run
+
+module _ (is : List Instr) (K : ℕ) where
+  first-step : (f i j q : ℕ) (τ : Env) → backSteps (i ∷ pathFrom is K f j q τ) ≡ test (leb j i) + backSteps (pathFrom is K f j q τ)
+  first-step zero i j q τ = refl
+  first-step (suc f) i j q τ = refl
+
+  run-from-counts : (f i r : ℕ) (ρ : Env) → (runFrom is K f i r ρ) .backJumps ≡ r + backSteps (pathFrom is K f i r ρ)
+  run-from-counts zero i r ρ = omega arith
+  run-from-counts (suc f) i r ρ =
+      let xs = drop i is in
+      go (stepAt (length is) K i r xs ρ) (step-counts (length is) K i r xs ρ) (run-from-counts f)
+    where
+      go : (x : Next) → Counts i r x → ((j q : ℕ) (τ : Env) → (runFrom is K f j q τ) .backJumps ≡ q + backSteps (pathFrom is K f j q τ))
+          → (onward x r (runFrom is K f)) .backJumps ≡ r + backSteps (i ∷ pathOn x (pathFrom is K f))
+      go (Halt o) c rest = omega arith
+      go (Go j q τ) c rest = omega (arith, rest j q τ, first-step f i j q τ)
+
+  -- the answer's number of back jumps is the number of steps back, for every run
+  pub run-counts-back-jumps : (words : List ℕ) → (run is K words) .backJumps ≡ backSteps (path is K words)
+  unfolding run
+  run-counts-back-jumps words = omega (arith, run-from-counts (suc K * suc (length is)) 0 0 (envOf words))
+
+  -- at most K, for all loops together
+  pub few-steps-back : (S : ℕ) → All (InstrOk S (length is)) is → (words : List ℕ) → backSteps (path is K words) ≤ K
+  few-steps-back S ok words = subst (λ m. m ≤ K) (run-counts-back-jumps words) (run-placed S is K ok words .few)
+
+-- ---- two bounds
+
+module _ (K L : ℕ) (h : K ≤ L) where
+  -- under both bounds a step leads to the same; or under the greater one it takes a back jump where K have been taken already
+  data Alike (r : ℕ) (x y : Next) : Type 0 where
+    same : y ≡ x → Alike r x y
+    further : (t : ℕ) (ρ : Env) → x ≡ Go t (suc r) ρ → K ≤ r → Alike r x y
+
+  module _ (n i r : ℕ) where
+    cond-alike : (b : Bool) (x y z w : Next) → Alike r x y → Alike r z w → Alike r (cond b x z) (cond b y w)
+    cond-alike true x y z w p q = p
+    cond-alike false x y z w p q = q
+
+    back-alike : (t : ℕ) (ρ : Env) (z : Next) (b c : Bool) → ltb r L ≡ b → ltb r K ≡ c
+        → Alike r (cond b (Go t (suc r) ρ) z) (cond c (Go t (suc r) ρ) z)
+    back-alike t ρ z true true e f = same refl
+    back-alike t ρ z true false e f = further t ρ refl (ltb-false r K f)
+    back-alike t ρ z false true e f = absurd (omega (arith, ltb-false r L e, ltb-true r K f))
+    back-alike t ρ z false false e f = same refl
+
+    step-alike : (xs : List Instr) (ρ : Env) → Alike r (stepAt n L i r xs ρ) (stepAt n K i r xs ρ)
+    step-alike [] ρ = same refl
+    step-alike (Assign s e ∷ xs) ρ = same refl
+    step-alike (Test k e ∷ xs) ρ = same refl
+    step-alike (IfThenGoto t e ∷ xs) ρ =
+        let back = back-alike t ρ (Halt (Failed Bound (placeIn n r i))) (ltb r L) (ltb r K) refl refl in
+        cond-alike (truthy (value ρ e)) _ _ _ _ (cond-alike (leb t i) _ _ _ _ back (same refl)) (same refl)
+
+  module _ (is : List Instr) where
+    abbrev One : (f i r : ℕ) → Env → Type 0
+    One f i r ρ = (runFrom is L f i r ρ) .backJumps ≤ K → runFrom is K f i r ρ ≡ runFrom is L f i r ρ
+
+    run-from-bounds : (f i r : ℕ) (ρ : Env) → One f i r ρ
+    run-from-bounds zero i r ρ few = refl
+    run-from-bounds (suc f) i r ρ few =
+        let xs = drop i is in
+        let n = length is in
+        go (stepAt n L i r xs ρ) (stepAt n K i r xs ρ) (step-alike n i r xs ρ) (run-from-bounds f) few
+      where
+        on : (x : Next) → ((j q : ℕ) (τ : Env) → One f j q τ) → (onward x r (runFrom is L f)) .backJumps ≤ K
+            → onward x r (runFrom is K f) ≡ onward x r (runFrom is L f)
+        on (Halt o) rest few = refl
+        on (Go j q τ) rest few = rest j q τ few
+
+        go : (x y : Next) → Alike r x y → ((j q : ℕ) (τ : Env) → One f j q τ) → (onward x r (runFrom is L f)) .backJumps ≤ K
+            → onward y r (runFrom is K f) ≡ onward x r (runFrom is L f)
+        go x y (same e) rest few = ap (λ z. onward z r (runFrom is K f)) e ∙ on x rest few
+        go x y (further t τ e k) rest few =
+            let taken = subst (λ x. (onward x r (runFrom is L f)) .backJumps ≤ K) e few in
+            absurd (omega (arith, run-from-counts is L f t (suc r) τ))
+
+    -- where K back jumps are enough for all loops together, a greater bound changes nothing
+    pub enough-bound : (S : ℕ) → All (InstrOk S (length is)) is → (words : List ℕ) → (run is L words) .backJumps ≤ K
+        → run is K words ≡ run is L words
+    unfolding run
+    enough-bound S ok words few =
+        let f = suc L * suc (length is) in
+        sym (run-fuel S is K ok f words (mul-le-mul-right (suc (length is)) (let z : suc K ≤ suc L = omega arith in z)))
+        ∙ run-from-bounds f 0 0 (envOf words) few
