@@ -1,7 +1,7 @@
 -- Document 01's small rule and other worked cases of running, on their real bytes: computed.
 use Prim.Native.Nat.{ℕ, zero, suc}
 use mathlib.Core.Path.{_≡_, refl}
-use mathlib.Core.List.{List, [], _∷_}
+use mathlib.Core.List.{List, [], _∷_, _++_}
 use lib.ListN.{length}
 use Rattle.expr.specs.Word.{unary, binary}
 use Rattle.expr.specs.Token.{operator, readToken}
@@ -108,6 +108,56 @@ to-the-end : (runAnswer leaps 0 (1 ∷ []) ≡ safe 0) × (runAnswer leaps 0 (0 
 unfolding runAnswer readTable readFile headerReply records recordOf frame instr parseFrom readToken operator fits run value
 to-the-end = (refl, refl)
 
+-- ---- back jumps of runs that end past the last instruction
+
+-- (0) if x is zero go to 3; (1) x becomes x - 1; (2) if 1 go to 0: leaves the loop through target n after x back jumps
+abbrev leaves : List ℕ
+leaves =
+    0x01 ∷ 0x00 ∷ 0x24 ∷ 0x01 ∷ 0x00 ∷ 0x03
+    ∷ 0x00 ∷ 0x06 ∷ 0x04 ∷ 0x00 ∷ 0x03 ∷ 0x02 ∷ 0x00 ∷ 0x12
+    ∷ 0x00 ∷ 0x0A ∷ 0x01 ∷ 0x00 ∷ 0x02 ∷ 0x00 ∷ 0x01 ∷ 0x00 ∷ 0x00 ∷ 0x00 ∷ 0x01 ∷ 0x21
+    ∷ 0x00 ∷ 0x08 ∷ 0x04 ∷ 0x00 ∷ 0x00 ∷ 0x01 ∷ 0x00 ∷ 0x00 ∷ 0x00 ∷ 0x01 ∷ []
+
+-- fewer than K; just K; and stopped by the bound
+ends-through-target-n : (runAnswer leaves 7 (0 ∷ []) ≡ safe 0) × (runAnswer leaves 7 (1 ∷ []) ≡ safe 1)
+    × (runAnswer leaves 7 (2 ∷ []) ≡ safe 2) × (runAnswer leaves 7 (3 ∷ []) ≡ safe 3) × (runAnswer leaves 3 (3 ∷ []) ≡ safe 3)
+    × (runAnswer leaves 2 (3 ∷ []) ≡ safe 2) × (runAnswer leaves 0 (1 ∷ []) ≡ safe 0)
+unfolding runAnswer readTable readFile headerReply records recordOf frame instr parseFrom readToken operator fits run value unary binary
+ends-through-target-n = (refl, refl, refl, refl, refl, refl, refl)
+
+-- (0) x becomes x - 1; (1) if x go to 0: falls off the end after x - 1 back jumps
+abbrev falls : List ℕ
+falls =
+    0x01 ∷ 0x00 ∷ 0x19 ∷ 0x01 ∷ 0x00 ∷ 0x02
+    ∷ 0x00 ∷ 0x0A ∷ 0x01 ∷ 0x00 ∷ 0x02 ∷ 0x00 ∷ 0x01 ∷ 0x00 ∷ 0x00 ∷ 0x00 ∷ 0x01 ∷ 0x21
+    ∷ 0x00 ∷ 0x05 ∷ 0x04 ∷ 0x00 ∷ 0x00 ∷ 0x02 ∷ 0x00 ∷ []
+
+falls-off-the-end : (runAnswer falls 7 (1 ∷ []) ≡ safe 0) × (runAnswer falls 7 (2 ∷ []) ≡ safe 1) × (runAnswer falls 7 (3 ∷ []) ≡ safe 2)
+    × (runAnswer falls 7 (4 ∷ []) ≡ safe 3) × (runAnswer falls 3 (4 ∷ []) ≡ safe 3) × (runAnswer falls 2 (4 ∷ []) ≡ safe 2)
+    × (runAnswer falls 255 (5 ∷ []) ≡ safe 4)
+unfolding runAnswer readTable readFile headerReply records recordOf frame instr parseFrom readToken operator fits run value binary
+falls-off-the-end = (refl, refl, refl, refl, refl, refl, refl)
+
+-- ---- one bound for all back jumps of one run together
+
+-- (0) x becomes x - 1; (1) if x go to 0; (2) y becomes y - 1; (3) if y go to 2; (4) assert 0: two loops, of x - 1 and y - 1 back jumps
+abbrev twoLoops : List ℕ
+twoLoops =
+    0x01 ∷ 0x00 ∷ 0x34 ∷ 0x02 ∷ 0x00 ∷ 0x05
+    ∷ 0x00 ∷ 0x0A ∷ 0x01 ∷ 0x00 ∷ 0x02 ∷ 0x00 ∷ 0x01 ∷ 0x00 ∷ 0x00 ∷ 0x00 ∷ 0x01 ∷ 0x21
+    ∷ 0x00 ∷ 0x05 ∷ 0x04 ∷ 0x00 ∷ 0x00 ∷ 0x02 ∷ 0x00
+    ∷ 0x00 ∷ 0x0A ∷ 0x01 ∷ 0x01 ∷ 0x02 ∷ 0x01 ∷ 0x01 ∷ 0x00 ∷ 0x00 ∷ 0x00 ∷ 0x01 ∷ 0x21
+    ∷ 0x00 ∷ 0x05 ∷ 0x04 ∷ 0x00 ∷ 0x02 ∷ 0x02 ∷ 0x01
+    ∷ 0x00 ∷ 0x06 ∷ 0x03 ∷ 0x01 ∷ 0x00 ∷ 0x00 ∷ 0x00 ∷ 0x00 ∷ []
+
+-- K = 2 is enough for either loop alone, not for both; K = 3 just is, and more changes nothing
+shared-bound : (runAnswer twoLoops 2 (3 ∷ 1 ∷ []) ≡ unsafeAt 16 2) × (runAnswer twoLoops 2 (1 ∷ 3 ∷ []) ≡ unsafeAt 16 2)
+    × (runAnswer twoLoops 2 (3 ∷ 2 ∷ []) ≡ safe 2) × (runAnswer twoLoops 3 (3 ∷ 2 ∷ []) ≡ unsafeAt 22 3) × (runAnswer twoLoops 255 (3 ∷ 2 ∷ []) ≡ unsafeAt 22 3)
+unfolding runAnswer readTable readFile headerReply records recordOf frame instr parseFrom readToken operator fits run value binary
+shared-bound = (refl, refl, refl, refl, refl)
+
+-- ---- limits
+
 -- 1,024 instructions, each an Assert of symbol 0, in 5,126 bytes
 abbrev pub asserts : ℕ → List ℕ
 asserts zero = []
@@ -119,3 +169,36 @@ manyAsserts = 0x01 ∷ 0x14 ∷ 0x06 ∷ 0x01 ∷ 0x04 ∷ 0x00 ∷ asserts 1024
 many : (length manyAsserts ≡ 5126) × (runAnswer manyAsserts 1 (1 ∷ []) ≡ safe 0) × (runAnswer manyAsserts 1 (0 ∷ []) ≡ unsafeAt 0 0)
 unfolding runAnswer readTable readFile headerReply records recordOf frame instr parseFrom readToken operator fits run value
 many = (refl, refl, refl)
+
+-- one more, in 5,131 bytes, is 4
+abbrev tooMany : List ℕ
+tooMany = 0x01 ∷ 0x14 ∷ 0x0B ∷ 0x01 ∷ 0x04 ∷ 0x01 ∷ asserts 1025
+
+too-many : (length tooMany ≡ 5131) × (readTable tooMany ≡ Refused 4 0)
+    × (runAnswer tooMany 1 (1 ∷ []) ≡ record { reply = 4; offset = 0; verdict = 0; place = 0; «back_jumps» = 0 })
+unfolding runAnswer readTable readFile headerReply
+too-many = (refl, refl, refl)
+
+-- 1,023 Asserts of symbol 0, then one of symbol 1: the last instruction fails
+abbrev lastFails : List ℕ
+lastFails = 0x01 ∷ 0x14 ∷ 0x06 ∷ 0x02 ∷ 0x04 ∷ 0x00 ∷ asserts 1023 ++ 0x00 ∷ 0x03 ∷ 0x03 ∷ 0x02 ∷ 0x01 ∷ []
+
+last-fails : (runAnswer lastFails 0 (1 ∷ 0 ∷ []) ≡ unsafeAt 1023 0) × (runAnswer lastFails 0 (1 ∷ 1 ∷ []) ≡ safe 0)
+unfolding runAnswer readTable readFile headerReply records recordOf frame instr parseFrom readToken operator fits run value
+last-fails = (refl, refl)
+
+-- (0) x becomes x - 1; (1) if x go to 0; (2) if 1 go to 1,023; 1,020 Asserts; (1,023) assert 0: the last instruction fails after x - 1
+-- back jumps
+abbrev far : List ℕ
+far =
+    0x01 ∷ 0x14 ∷ 0x17 ∷ 0x01 ∷ 0x04 ∷ 0x00
+    ∷ 0x00 ∷ 0x0A ∷ 0x01 ∷ 0x00 ∷ 0x02 ∷ 0x00 ∷ 0x01 ∷ 0x00 ∷ 0x00 ∷ 0x00 ∷ 0x01 ∷ 0x21
+    ∷ 0x00 ∷ 0x05 ∷ 0x04 ∷ 0x00 ∷ 0x00 ∷ 0x02 ∷ 0x00
+    ∷ 0x00 ∷ 0x08 ∷ 0x04 ∷ 0x03 ∷ 0xFF ∷ 0x01 ∷ 0x00 ∷ 0x00 ∷ 0x00 ∷ 0x01
+    ∷ asserts 1020
+    ++ 0x00 ∷ 0x06 ∷ 0x03 ∷ 0x01 ∷ 0x00 ∷ 0x00 ∷ 0x00 ∷ 0x00 ∷ []
+
+-- places of a run pass 65,535: 63 × 1,025 + 1,023, and the greatest of all, 255 × 1,025 + 1,023
+far-places : (runAnswer far 63 (64 ∷ []) ≡ unsafeAt 65598 63) × (runAnswer far 255 (256 ∷ []) ≡ unsafeAt 262398 255)
+unfolding runAnswer readTable readFile headerReply records recordOf frame instr parseFrom readToken operator fits run value binary
+far-places = (refl, refl)
