@@ -1,12 +1,13 @@
 -- Document 01's marked cases of judging, on their real bytes: computed.
-use Prim.Native.Nat.{ℕ}
+use Prim.Native.Nat.{ℕ, zero, suc}
 use mathlib.Core.Path.{_≡_, refl}
 use mathlib.Core.List.{List, [], _∷_, _++_}
+use lib.ListN.{length}
 use Rattle.expr.specs.Word.{unary, binary}
 use Rattle.expr.specs.Token.{operator, readToken}
 use Rattle.expr.specs.Expr.{fits, parseFrom}
 use Rattle.expr.specs.Eval.{value}
-use Rattle.file.specs.File.{headerReply, frame, recordOf, records, readFile}
+use Rattle.file.specs.File.{headerReply, frame, recordOf, records, readFile, Refused}
 use Rattle.trace.specs.declared.Answer.{Answer}
 use Rattle.trace.specs.Trace.{stmt, readTrace}
 use Rattle.trace.specs.Judge.{judge}
@@ -175,3 +176,41 @@ places : (judgeAnswer (traceOf 26 2 (testOf 3 0xFF 2 ++ testOf 3 0xFE 0)) [] ≡
     × (judgeAnswer (traceOf 26 2 (testOf 2 0xFF 2 ++ testOf 3 0xFF 0)) [] ≡ unsafeAt 65535)
 unfolding judgeAnswer readTrace readFile headerReply records recordOf frame stmt parseFrom readToken operator fits judge value
 places = (refl, refl, refl)
+
+-- ---- limits
+
+abbrev refusedAt : (reply offset : ℕ) → Answer
+refusedAt reply offset = record { reply = reply; offset = offset; verdict = 0; place = 0 }
+
+-- of S inputs: at 0 an assign of 0 to the symbol with these two bytes; at 9 an assert of that symbol
+abbrev highest : (S high low : ℕ) → List ℕ
+highest S high low =
+    0x81 ∷ 0x00 ∷ 0x1A ∷ S ∷ 0x00 ∷ 0x02
+    ∷ 0x00 ∷ 0x0A ∷ 0x01 ∷ 0x00 ∷ 0x00 ∷ high ∷ low ∷ 0x01 ∷ 0x00 ∷ 0x00 ∷ 0x00 ∷ 0x00
+    ∷ 0x00 ∷ 0x06 ∷ 0x03 ∷ 0x00 ∷ 0x09 ∷ 0x03 ∷ high ∷ low ∷ []
+
+-- an assigned symbol is below S + 4,096: S + 4,095 is assigned and read, S + 4,096 is 6
+symbols : (judgeAnswer (highest 0 0x0F 0xFF) [] ≡ unsafeAt 9) × (judgeAnswer (highest 0 0x10 0x00) [] ≡ refusedAt 6 6)
+    × (judgeAnswer (highest 1 0x10 0x00) (7 ∷ []) ≡ unsafeAt 9) × (judgeAnswer (highest 1 0x10 0x01) (7 ∷ []) ≡ refusedAt 6 6)
+    × (judgeAnswer (highest 64 0x10 0x40) [] ≡ refusedAt 6 6) × (judgeAnswer (highest 64 0x10 0x3F) [] ≡ refusedAt 11 0)
+unfolding judgeAnswer readTrace readFile headerReply records recordOf frame stmt parseFrom readToken operator fits judge value
+symbols = (refl, refl, refl, refl, refl, refl)
+
+-- at 7 an assert of symbol 0, so many times
+abbrev asserts : ℕ → List ℕ
+asserts zero = []
+asserts (suc n) = 0x00 ∷ 0x06 ∷ 0x03 ∷ 0x00 ∷ 0x07 ∷ 0x03 ∷ 0x00 ∷ 0x00 ∷ asserts n
+
+-- 4,096 statements, in 32,774 bytes: the last of them is an assert of symbol 1 at 8
+abbrev most : List ℕ
+most = 0x81 ∷ 0x80 ∷ 0x06 ∷ 0x02 ∷ 0x10 ∷ 0x00 ∷ asserts 4095 ++ 0x00 ∷ 0x06 ∷ 0x03 ∷ 0x00 ∷ 0x08 ∷ 0x03 ∷ 0x00 ∷ 0x01 ∷ []
+
+-- and one more, in 32,782 bytes
+abbrev tooMany : List ℕ
+tooMany = 0x81 ∷ 0x80 ∷ 0x0E ∷ 0x02 ∷ 0x10 ∷ 0x01 ∷ asserts 4097
+
+-- 4,096 statements are judged to the last, 4,097 are 4
+statements : (length most ≡ 32774) × (judgeAnswer most (1 ∷ 0 ∷ []) ≡ unsafeAt 8)
+    × (length tooMany ≡ 32782) × (judgeAnswer tooMany (1 ∷ 0 ∷ []) ≡ refusedAt 4 0)
+unfolding judgeAnswer readTrace readFile headerReply records recordOf frame stmt parseFrom readToken operator fits judge value
+statements = (refl, refl, refl, refl)
