@@ -1,0 +1,126 @@
+-- Document 01, "The slice": kept records stay byte for byte, in order, with their numbers; the header's length and count are new.
+--
+-- Stated on bytes: a trace's bytes after the header are cut by their length fields, and the slice is made of those very pieces whose
+-- statements are kept, behind a header with their length and count. Why: an accepted trace is what is written of its statements
+-- (`encode-read`), so its pieces are the records of its statements, and `keep` picks the slice's out of them.
+use Prim.Native.Nat.{ℕ, zero, suc, _+_, _<_}
+use native.Mathlib.Omega.{arith}
+use mathlib.Core.Path.{_≡_, refl, sym, ap, ap₂, _∙_}
+use mathlib.Core.Bool.{Bool, true, false, cond}
+use mathlib.Core.List.{List, [], _∷_, _++_, map}
+use lib.ListN.{length, take, drop, length-append}
+use lib.Seq.{take-at, drop-at}
+use lib.Dec.{leb}
+use Rattle.expr.specs.Lists.{All}
+use Rattle.expr.specs.Number.{Byte, numberOf, bytesOf}
+use Rattle.expr.specs.NumberLaws.{number-written}
+use Rattle.file.specs.File.{Input, Accepted, header, recordBytes, recordsBytes, encode}
+use Rattle.file.specs.FileLaws.{file-is}
+use Rattle.file.specs.ReadingLaws.{short}
+use Rattle.trace.specs.Trace.{Stmt, stmts, readTrace, stmtBytes, encodeTrace}
+use Rattle.trace.specs.WellFormed.{trace-ok}
+use Rattle.trace.specs.EncodeLaws.{encode-read}
+use Rattle.slice.specs.Slice.{keep, slice}
+use Rattle.slice.specs.Answer.{sliceOf, refusal, answered, sliceAnswer}
+use Rattle.slice.specs.SliceLaws.{encode-length}
+
+-- ---- pieces of bytes
+
+-- c records, each with its two bytes of length
+abbrev pub cut : (c : ℕ) → List ℕ → List (List ℕ)
+cut zero bs = []
+cut (suc c) bs = take (2 + numberOf 2 bs) bs ∷ cut c (drop (2 + numberOf 2 bs) bs)
+
+-- the records of a file, as many as its header says
+abbrev pub recordsOf : (file : List ℕ) → List (List ℕ)
+recordsOf file = cut (numberOf 2 (drop 4 file)) (drop 6 file)
+
+abbrev pub joined : List (List ℕ) → List ℕ
+joined [] = []
+joined (p ∷ ps) = p ++ joined ps
+
+-- those whose flags are set
+abbrev pub picked : List Bool → List (List ℕ) → List (List ℕ)
+picked [] ps = []
+picked (b ∷ bs) [] = []
+picked (b ∷ bs) (p ∷ ps) = cond b (p ∷ picked bs ps) (picked bs ps)
+
+-- for each statement, if it is kept
+abbrev pub flags : List Stmt → List Bool
+flags [] = []
+flags (t ∷ ts) = keep t ts (slice ts) ∷ flags ts
+
+-- ---- an accepted trace's pieces are its statements' records
+
+abbrev pieces : List Stmt → List (List ℕ)
+pieces ts = map (recordBytes stmtBytes) ts
+
+cut-records : (ts : List Stmt) → length (recordsBytes stmtBytes ts) < 65536 → cut (length ts) (recordsBytes stmtBytes ts) ≡ pieces ts
+cut-records [] h = refl
+cut-records (t ∷ ts) h =
+    let one = recordBytes stmtBytes t in
+    let rest = recordsBytes stmtBytes ts in
+    let l = length (stmtBytes t) in
+    let n = length ts in
+    let sum : length (one ++ rest) ≡ 2 + length (stmtBytes t) + length rest = omega (arith, length-append one rest) in
+    let size : numberOf 2 (one ++ rest) ≡ length (stmtBytes t) = number-written 2 l (stmtBytes t ++ rest) (omega arith) in
+    let long : length (recordBytes stmtBytes t) ≡ 2 + length (stmtBytes t) = omega arith in
+    ap (λ l. take (2 + l) (one ++ rest) ∷ cut n (drop (2 + l) (one ++ rest))) size
+    ∙ ap₂ {C = List (List ℕ)} (λ p q. p ∷ cut n q) (take-at one rest (2 + l) long) (drop-at one rest (2 + l) long)
+    ∙ ap {B = List (List ℕ)} (λ q. one ∷ q) (cut-records ts (omega arith))
+
+pub trace-records : (t : List ℕ) (S : ℕ) (ts : List Stmt) → All Byte t → readTrace t ≡ Accepted S ts
+    → recordsOf t ≡ map (recordBytes stmtBytes) ts
+unfolding readTrace encode
+trace-records t S ts o h =
+    let bytes : encodeTrace S ts ≡ t = encode-read t S ts o h in
+    let few : length t < 65536 = short 129 4096 t o (file-is 129 4096 stmts t S ts h .header) in
+    let total : length t ≡ 6 + length (recordsBytes stmtBytes ts) = sym (ap length bytes) ∙ encode-length S ts in
+    let rest = recordsBytes stmtBytes ts in
+    let limit = trace-ok t S ts o h .few in
+    let count : numberOf 2 (bytesOf 2 (length ts) ++ rest) ≡ length ts = number-written 2 (length ts) rest (omega (arith, limit)) in
+    ap recordsOf (sym bytes)
+    ∙ ap (λ c. cut c rest) count
+    ∙ cut-records ts (omega arith)
+
+-- ---- of which the slice has those that are kept
+
+picked-records : (ts : List Stmt) → picked (flags ts) (pieces ts) ≡ pieces (slice ts)
+unfolding slice
+picked-records [] = refl
+picked-records (t ∷ ts) = go (keep t ts (slice ts)) (picked-records ts)
+  where
+    go : (b : Bool) → picked (flags ts) (pieces ts) ≡ pieces (slice ts)
+        → picked (b ∷ flags ts) (pieces (t ∷ ts)) ≡ pieces (cond b (t ∷ slice ts) (slice ts))
+    go true ih = ap {B = List (List ℕ)} (λ q. recordBytes stmtBytes t ∷ q) ih
+    go false ih = ih
+
+records-joined : (ts : List Stmt) → joined (pieces ts) ≡ recordsBytes stmtBytes ts
+records-joined [] = refl
+records-joined (t ∷ ts) = ap (λ q. recordBytes stmtBytes t ++ q) (records-joined ts)
+
+records-counted : (ts : List Stmt) → length (pieces ts) ≡ length ts
+records-counted [] = refl
+records-counted (t ∷ ts) = ap suc (records-counted ts)
+
+-- a file of these records: version 129, its length, S, their count, and they
+abbrev pub fileOf : (S : ℕ) → List (List ℕ) → List ℕ
+fileOf S ps = header 129 (6 + length (joined ps)) S (length ps) ++ joined ps
+
+encode-pieces : (S : ℕ) (ts : List Stmt) → encodeTrace S ts ≡ fileOf S (pieces ts)
+unfolding encode
+encode-pieces S ts = ap₂ (λ r n. header 129 (6 + length r) S n ++ r) (sym (records-joined ts)) (sym (records-counted ts))
+
+-- a slice that is answered is the file of those of its trace's records that are kept
+pub slice-keeps-bytes : (t : List ℕ) (room S : ℕ) (ts : List Stmt) → All Byte t → readTrace t ≡ Accepted S ts
+    → (sliceAnswer t room) .reply ≡ 0 → (sliceAnswer t room) .bytes ≡ fileOf S (picked (flags ts) (recordsOf t))
+unfolding sliceAnswer
+slice-keeps-bytes t room S ts o h done =
+    ap (λ i. (answered room i) .bytes) h
+    ∙ go (leb (length (encodeTrace S (slice ts))) room) (ap (λ i. (answered room i) .reply) (sym h) ∙ done)
+  where
+    go : (b : Bool) → (cond b (sliceOf S (slice ts)) (refusal 10 0)) .reply ≡ 0
+        → (cond b (sliceOf S (slice ts)) (refusal 10 0)) .bytes ≡ fileOf S (picked (flags ts) (recordsOf t))
+    go true z =
+        encode-pieces S (slice ts) ∙ ap (fileOf S) (sym (picked-records ts) ∙ ap (picked (flags ts)) (sym (trace-records t S ts o h)))
+    go false z = absurd (omega arith)
