@@ -116,8 +116,8 @@ loopsTrace =
     ∷ 0x01 ∷ 0x00 ∷ 0x00 ∷ 0x00 ∷ 0x04
     ∷ 0x03 ∷ 0x00 ∷ 0x02 ∷ 0x30 ∷ []
 
--- three inputs; (0) z becomes x - y; (1) x becomes z - y; (2) if x go to 1; (3) assert z below x: expressions in current symbols, and a back
--- jump into the middle of the next copy, place 6
+-- three inputs; (0) z becomes x - y; (1) x becomes z - y; (2) if x go to 1; (3) assert z below x: expressions in current symbols, and a
+-- back jump into the middle of the next copy, place 6
 abbrev renames : List ℕ
 renames =
     0x01 ∷ 0x00 ∷ 0x27 ∷ 0x03 ∷ 0x00 ∷ 0x04
