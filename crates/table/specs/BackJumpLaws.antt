@@ -53,12 +53,19 @@ module _ (n K i r : ℕ) where
   onwards : (ρ : Env) → Counts i r (Go (suc i) r ρ)
   onwards ρ = rw (lt-leb (suc i) i (omega arith)) (omega arith)
 
+  -- by the test that decides
+  told-counts : (b : Bool) (x y : Next) → (b ≡ true → Counts i r x) → (b ≡ false → Counts i r y) → Counts i r (cond b x y)
+  told-counts true x y p q = p refl
+  told-counts false x y p q = q refl
+
+  back : (t : ℕ) (ρ : Env) → leb t i ≡ true → Counts i r (Go t (suc r) ρ)
+  back t ρ e = rw e (omega arith)
+
+  forward : (t : ℕ) (ρ : Env) → leb t i ≡ false → Counts i r (Go t r ρ)
+  forward t ρ e = rw e (omega arith)
+
   jump-counts : (t : ℕ) (ρ : Env) → Counts i r (jump n K i r t ρ)
-  jump-counts t ρ = go (leb t i) refl
-    where
-      go : (b : Bool) → leb t i ≡ b → Counts i r (cond b (cond (ltb r K) (Go t (suc r) ρ) (Halt (Failed Bound (placeIn n r i)))) (Go t r ρ))
-      go true e = cond-counts (ltb r K) _ _ (rw e (omega arith)) tt
-      go false e = rw e (omega arith)
+  jump-counts t ρ = told-counts (leb t i) _ _ (λ e. cond-counts (ltb r K) _ _ (back t ρ e) tt) (forward t ρ)
 
   step-counts : (xs : List Instr) (ρ : Env) → Counts i r (stepAt n K i r xs ρ)
   step-counts [] ρ = tt
