@@ -171,11 +171,16 @@ sentences = (refl, refl, refl, refl, refl, refl, refl, refl, refl)
 abbrev testOf : (kind p n : ℕ) → List ℕ
 testOf kind p n = 0x00 ∷ 0x08 ∷ kind ∷ 0xFF ∷ p ∷ 0x01 ∷ 0x00 ∷ 0x00 ∷ 0x00 ∷ n ∷ []
 
--- any word but zero is true; places are not checked, 65535 too, and need not rise
+-- assert 0 at 0
+abbrev failsAtZero : List ℕ
+failsAtZero = 0x00 ∷ 0x08 ∷ 0x03 ∷ 0x00 ∷ 0x00 ∷ 0x01 ∷ 0x00 ∷ 0x00 ∷ 0x00 ∷ 0x00 ∷ []
+
+-- any word but zero is true; places are not checked, 65535 too, and need not rise; 0 is one like any other
 places : (judgeAnswer (traceOf 26 2 (testOf 3 0xFF 2 ++ testOf 3 0xFE 0)) [] ≡ unsafeAt 65534) × (judgeAnswer (traceOf 16 1 (testOf 3 0xFF 0)) [] ≡ unsafeAt 65535)
     × (judgeAnswer (traceOf 26 2 (testOf 2 0xFF 2 ++ testOf 3 0xFF 0)) [] ≡ unsafeAt 65535)
+    × (judgeAnswer (traceOf 16 1 failsAtZero) [] ≡ unsafeAt 0)
 unfolding judgeAnswer readTrace readFile headerReply records recordOf frame stmt parseFrom readToken operator fits judge value
-places = (refl, refl, refl)
+places = (refl, refl, refl, refl)
 
 -- ---- limits
 
