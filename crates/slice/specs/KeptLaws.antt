@@ -3,10 +3,12 @@
 -- Stated on bytes: a trace's bytes after the header are cut by their length fields, and the slice is made of those very pieces whose
 -- statements are kept, behind a header with their length and count. Why: an accepted trace is what is written of its statements
 -- (`encode-read`), so its pieces are the records of its statements, and `keep` picks the slice's out of them.
+--
+-- And nothing idle is kept: in a slice every Assign's symbol is read behind it, and every Assume has an Assert behind it.
 use Prim.Native.Nat.{ℕ, zero, suc, _+_, _<_}
 use native.Mathlib.Omega.{arith}
 use mathlib.Core.Path.{_≡_, refl, sym, ap, ap₂, _∙_}
-use mathlib.Core.Bool.{Bool, true, false, cond}
+use mathlib.Core.Bool.{Bool, true, false, cond, _||_}
 use mathlib.Core.List.{List, [], _∷_, _++_, map}
 use lib.ListN.{length, take, drop, length-append}
 use lib.Seq.{take-at, drop-at}
@@ -17,12 +19,12 @@ use Rattle.expr.specs.NumberLaws.{number-written}
 use Rattle.file.specs.File.{Input, Accepted, header, recordBytes, recordsBytes, encode}
 use Rattle.file.specs.FileLaws.{file-is}
 use Rattle.file.specs.ReadingLaws.{short}
-use Rattle.trace.specs.Trace.{Stmt, stmts, readTrace, stmtBytes, encodeTrace}
+use Rattle.trace.specs.Trace.{Stmt, Assign, Test, stmts, readTrace, stmtBytes, encodeTrace, readsTrace}
 use Rattle.trace.specs.WellFormed.{trace-ok}
 use Rattle.trace.specs.EncodeLaws.{encode-read}
-use Rattle.slice.specs.Slice.{keep, slice}
+use Rattle.slice.specs.Slice.{isAssert, hasAssert, keep, slice}
 use Rattle.slice.specs.Answer.{sliceOf, refusal, answered, sliceAnswer}
-use Rattle.slice.specs.SliceLaws.{encode-length}
+use Rattle.slice.specs.SliceLaws.{encode-length, slice-asserts}
 
 -- ---- pieces of bytes
 
@@ -124,3 +126,25 @@ slice-keeps-bytes t room S ts o h done =
     go true z =
         encode-pieces S (slice ts) ∙ ap (fileOf S) (sym (picked-records ts) ∙ ap (picked (flags ts)) (sym (trace-records t S ts o h)))
     go false z = absurd (omega arith)
+
+-- ---- nothing idle is kept
+
+-- every Assign's symbol is read behind it, and every Assume has an Assert behind it
+abbrev pub Needed : List Stmt → Type 0
+Needed [] = Unit {0}
+Needed (Assign p x e ∷ ts) = (readsTrace x ts ≡ true) × Needed ts
+Needed (Test k p e ∷ ts) = ((isAssert k || hasAssert ts) ≡ true) × Needed ts
+
+pub slice-needed : (ts : List Stmt) → Needed (slice ts)
+unfolding slice
+slice-needed [] = tt
+slice-needed (Assign p x e ∷ ts) = go (readsTrace x (slice ts)) refl (slice-needed ts)
+  where
+    go : (b : Bool) → readsTrace x (slice ts) ≡ b → Needed (slice ts) → Needed (cond b (Assign p x e ∷ slice ts) (slice ts))
+    go true q ih = (q, ih)
+    go false q ih = ih
+slice-needed (Test k p e ∷ ts) = go (isAssert k || hasAssert ts) refl (slice-needed ts)
+  where
+    go : (b : Bool) → (isAssert k || hasAssert ts) ≡ b → Needed (slice ts) → Needed (cond b (Test k p e ∷ slice ts) (slice ts))
+    go true q ih = (ap (λ b. isAssert k || b) (slice-asserts ts) ∙ q, ih)
+    go false q ih = ih

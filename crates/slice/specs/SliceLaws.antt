@@ -255,7 +255,7 @@ slice-done s S ts room h fits =
 -- ---- the slice of a slice
 
 -- a slice has an Assert exactly if its trace has
-slice-asserts : (ts : List Stmt) → hasAssert (slice ts) ≡ hasAssert ts
+pub slice-asserts : (ts : List Stmt) → hasAssert (slice ts) ≡ hasAssert ts
 unfolding slice
 slice-asserts [] = refl
 slice-asserts (Assign p x e ∷ ts) = go (readsTrace x (slice ts)) ∙ slice-asserts ts
