@@ -230,3 +230,12 @@ limits : (length asserts ≡ 5126)
     × (traceAnswer asserts 2 65535 ≡ refusal 9 0)
 unfolding traceAnswer readTable readFile headerReply records recordOf frame instr parseFrom readToken operator fits unwind places encode
 limits = (refl, refl, refl, refl, refl, refl)
+
+-- S = 1 and one instruction, an Assert of symbol 0 with so many times `zero` behind it
+abbrev zeros : (high low c : ℕ) → List ℕ
+zeros high low c = 0x01 ∷ 0xFF ∷ low ∷ 0x01 ∷ 0x00 ∷ 0x01 ∷ 0xFF ∷ high ∷ 0x03 ∷ 0x02 ∷ 0x00 ∷ repeated c (0x12 ∷ [])
+
+-- a trace of 65,535 bytes is written; one of 65,536 is 9
+longest : (length ((traceAnswer (zeros 0xC0 0xC8 65469) 0 65535) .bytes) ≡ 65535) × (traceAnswer (zeros 0xC1 0xC9 65470) 0 65536 ≡ refusal 9 0)
+unfolding traceAnswer readTable readFile headerReply records recordOf frame instr parseFrom readToken operator fits unwind places encode
+longest = (refl, refl)
