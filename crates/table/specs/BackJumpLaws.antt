@@ -1,23 +1,20 @@
 -- The back jumps of a run, counted once more: not on the way, but over the list of the instructions that the run comes to. Every run, be it
--- ended, failed or stopped by the bound, answers that count. Of a table that is read it is at most K for all its loops together; and where
--- K are enough for all of them, a greater bound changes nothing.
+-- ended, failed or stopped by the bound, answers that count; and of a table that is read it is at most K for all its loops together.
 use Prim.Native.Nat.{ℕ, zero, suc, _+_, _*_, _≤_}
 use native.Mathlib.Omega.{arith}
-use native.Mathlib.Nat.{mul-le-mul-right}
-use mathlib.Core.Path.{_≡_, refl, sym, ap, _∙_, subst}
+use mathlib.Core.Path.{_≡_, refl, subst}
 use mathlib.Core.Bool.{Bool, true, false, cond}
 use mathlib.Core.List.{List, [], _∷_}
 use lib.ListN.{length, drop}
 use lib.Dec.{leb, ltb}
-use borrow.Author.Tests.{lt-leb, ltb-true, ltb-false}
+use borrow.Author.Tests.{lt-leb}
 use Rattle.expr.specs.Lists.{All}
 use Rattle.expr.specs.Word.{truthy, test}
 use Rattle.expr.specs.Eval.{Env, envOf, update, value}
-use Rattle.file.specs.Outcome.{Bound, Failed}
 use Rattle.table.specs.Table.{Instr, Assign, Test, IfThenGoto}
 use Rattle.table.specs.TableLaws.{InstrOk}
-use Rattle.table.specs.Run.{placeIn, Next, Halt, Go, jump, stepAt, onward, runFrom, run}
-use Rattle.table.specs.RunLaws.{run-placed, run-fuel}
+use Rattle.table.specs.Run.{Next, Halt, Go, jump, stepAt, onward, runFrom, run}
+use Rattle.table.specs.RunLaws.{run-placed}
 
 -- ---- the instructions that a run comes to, in their order
 
@@ -80,7 +77,7 @@ module _ (is : List Instr) (K : ℕ) where
   first-step zero i j q τ = refl
   first-step (suc f) i j q τ = refl
 
-  run-from-counts : (f i r : ℕ) (ρ : Env) → (runFrom is K f i r ρ) .backJumps ≡ r + backSteps (pathFrom is K f i r ρ)
+  pub run-from-counts : (f i r : ℕ) (ρ : Env) → (runFrom is K f i r ρ) .backJumps ≡ r + backSteps (pathFrom is K f i r ρ)
   run-from-counts zero i r ρ = omega arith
   run-from-counts (suc f) i r ρ =
       let xs = drop i is in
@@ -99,63 +96,3 @@ module _ (is : List Instr) (K : ℕ) where
   -- at most K, for all loops together
   pub few-steps-back : (S : ℕ) → All (InstrOk S (length is)) is → (words : List ℕ) → backSteps (path is K words) ≤ K
   few-steps-back S ok words = subst (λ m. m ≤ K) (run-counts-back-jumps words) (run-placed S is K ok words .few)
-
--- ---- two bounds
-
-module _ (K L : ℕ) (h : K ≤ L) where
-  -- under both bounds a step leads to the same; or under the greater one it takes a back jump where K have been taken already
-  data Alike (r : ℕ) (x y : Next) : Type 0 where
-    same : y ≡ x → Alike r x y
-    further : (t : ℕ) (ρ : Env) → x ≡ Go t (suc r) ρ → K ≤ r → Alike r x y
-
-  module _ (n i r : ℕ) where
-    cond-alike : (b : Bool) (x y z w : Next) → Alike r x y → Alike r z w → Alike r (cond b x z) (cond b y w)
-    cond-alike true x y z w p q = p
-    cond-alike false x y z w p q = q
-
-    back-alike : (t : ℕ) (ρ : Env) (z : Next) (b c : Bool) → ltb r L ≡ b → ltb r K ≡ c
-        → Alike r (cond b (Go t (suc r) ρ) z) (cond c (Go t (suc r) ρ) z)
-    back-alike t ρ z true true e f = same refl
-    back-alike t ρ z true false e f = further t ρ refl (ltb-false r K f)
-    back-alike t ρ z false true e f = absurd (omega (arith, ltb-false r L e, ltb-true r K f))
-    back-alike t ρ z false false e f = same refl
-
-    step-alike : (xs : List Instr) (ρ : Env) → Alike r (stepAt n L i r xs ρ) (stepAt n K i r xs ρ)
-    step-alike [] ρ = same refl
-    step-alike (Assign s e ∷ xs) ρ = same refl
-    step-alike (Test k e ∷ xs) ρ = same refl
-    step-alike (IfThenGoto t e ∷ xs) ρ =
-        let back = back-alike t ρ (Halt (Failed Bound (placeIn n r i))) (ltb r L) (ltb r K) refl refl in
-        cond-alike (truthy (value ρ e)) _ _ _ _ (cond-alike (leb t i) _ _ _ _ back (same refl)) (same refl)
-
-  module _ (is : List Instr) where
-    abbrev One : (f i r : ℕ) → Env → Type 0
-    One f i r ρ = (runFrom is L f i r ρ) .backJumps ≤ K → runFrom is K f i r ρ ≡ runFrom is L f i r ρ
-
-    run-from-bounds : (f i r : ℕ) (ρ : Env) → One f i r ρ
-    run-from-bounds zero i r ρ few = refl
-    run-from-bounds (suc f) i r ρ few =
-        let xs = drop i is in
-        let n = length is in
-        go (stepAt n L i r xs ρ) (stepAt n K i r xs ρ) (step-alike n i r xs ρ) (run-from-bounds f) few
-      where
-        on : (x : Next) → ((j q : ℕ) (τ : Env) → One f j q τ) → (onward x r (runFrom is L f)) .backJumps ≤ K
-            → onward x r (runFrom is K f) ≡ onward x r (runFrom is L f)
-        on (Halt o) rest few = refl
-        on (Go j q τ) rest few = rest j q τ few
-
-        go : (x y : Next) → Alike r x y → ((j q : ℕ) (τ : Env) → One f j q τ) → (onward x r (runFrom is L f)) .backJumps ≤ K
-            → onward y r (runFrom is K f) ≡ onward x r (runFrom is L f)
-        go x y (same e) rest few = ap (λ z. onward z r (runFrom is K f)) e ∙ on x rest few
-        go x y (further t τ e k) rest few =
-            let taken = subst (λ x. (onward x r (runFrom is L f)) .backJumps ≤ K) e few in
-            absurd (omega (arith, run-from-counts is L f t (suc r) τ))
-
-    -- where K back jumps are enough for all loops together, a greater bound changes nothing
-    pub enough-bound : (S : ℕ) → All (InstrOk S (length is)) is → (words : List ℕ) → (run is L words) .backJumps ≤ K
-        → run is K words ≡ run is L words
-    unfolding run
-    enough-bound S ok words few =
-        let f = suc L * suc (length is) in
-        sym (run-fuel S is K ok f words (mul-le-mul-right (suc (length is)) (let z : suc K ≤ suc L = omega arith in z)))
-        ∙ run-from-bounds f 0 0 (envOf words) few

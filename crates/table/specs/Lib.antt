@@ -4,6 +4,7 @@ pub mod TableLaws
 pub mod Run
 pub mod RunLaws
 pub mod BackJumpLaws
+pub mod BoundLaws
 pub mod Answer
 pub mod Cases
 -- What the code's values mean in these terms.
