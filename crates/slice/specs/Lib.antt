@@ -5,6 +5,7 @@ pub mod KeptLaws
 pub mod Mask
 pub mod MaskLaws
 pub mod Answer
+pub mod AnswerLaws
 pub mod Cases
 -- What the code's values mean in these terms.
 pub mod Shown
