@@ -1,17 +1,27 @@
-# make run     the slice of a rule: make run RULE=march K=2 (a rule of rules/, or the path of a table)
-# make test    the gate
-# make lib     target/staticlib/libkadvitul.a, for C and Rust
-# make bench   speed against plain Rust, as ratios
-# make soak    N generated cases of each call from seed SEED on, and demand 3: make soak N=1000000 SEED=1
-# make mutants wrong definitions and wrong programs, and which proof refuses each
-# make fmt     lay every file out
+# make help     what can be made
+# make run      the slice of a rule: make run RULE=march K=2 (a rule of rules/, or the path of a table)
+# make test     the gate
+# make lib      target/staticlib/libkadvitul.a, for C and Rust
+# make bench    speed against plain Rust, as ratios
+# make soak     N generated cases of each call, demand 3 and the printer: make soak N=1000000 SEED=1 (a new seed if none is given)
+# make mutants  wrong definitions and wrong programs, and which proof refuses each
+# make fmt      lay every file out
+# make clean    remove what was made
 
 RULE = small
 K = 0
 N = 100000
-SEED = 1
+SEED =
 
-.PHONY: run test bench lib soak fmt mutants
+# the crates that the archive is made of, and their files
+parts = $(shell awk -F: '$$1 == "kadvitul" { print $$1 $$2 }' crates.txt)
+sources = $(shell find $(addprefix crates/,$(parts)) -name '*.rt' -o -name '*.antt')
+
+.DEFAULT_GOAL = help
+.PHONY: help run test bench lib soak fmt mutants clean
+
+help:
+	@sed -n 's/^# make/make/p' Makefile
 
 run:
 	@tools/print "$(RULE)" "$(K)"
@@ -25,7 +35,9 @@ bench: lib
 soak: lib
 	cd host && CASES=$(N) SEED=$(SEED) cargo run --offline --release --quiet --bin soak
 
-lib:
+lib: target/staticlib/libkadvitul.a
+
+target/staticlib/libkadvitul.a: crates.txt $(sources)
 	rt staticlib kadvitul
 
 fmt:
@@ -34,3 +46,6 @@ fmt:
 
 mutants:
 	@tools/mutants
+
+clean:
+	rm -rf target host/target

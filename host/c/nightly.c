@@ -6,8 +6,8 @@
  * VALUATIONS has one valuation after the other, 4 bytes big-endian for each input; FILE's byte 3 says how many inputs there are. A file
  * without valuations, or with a part of one at its end, is handed over as it is, and refused by its length where there are inputs.
  *
- * Exit status: 0 all safe; 1 wrong usage; 2 a call refused, whatever the others said; 3 a file cannot be read or the output not be written;
- * 4 some unsafe. */
+ * Exit status: 0 all safe; 1 wrong usage; 2 a call refused, whatever the others said; 3 a file cannot be read, the output not be written, or
+ * the archive is of another version; 4 some unsafe. */
 #include <errno.h>
 #include <inttypes.h>
 #include <stdio.h>
@@ -18,7 +18,7 @@
 
 enum { ALL_SAFE = 0, USAGE = 1, REFUSED = 2, UNREADABLE = 3, SOME_UNSAFE = 4 };
 
-enum { TRACE_LIMIT = 65535, FIRST_ROOM = 4096 };
+enum { FIRST_ROOM = 4096 };
 
 /* A NULL pointer where the length is 0. */
 struct bytes {
@@ -57,17 +57,17 @@ static int read_file(const char *path, struct bytes *file) {
 
 static const char *meaning(uint32_t reply) {
     switch (reply) {
-    case 1: return "the file has fewer than 6 bytes";
-    case 2: return "the version byte is wrong: not this kind of file";
-    case 3: return "the length field is not the file's length";
-    case 4: return "more inputs or records than allowed";
-    case 5: return "a record is cut short or of unknown kind, or bytes follow the last record";
-    case 6: return "a jump's target or an assigned symbol is against its rule";
-    case 7: return "an expression is against its rules";
-    case 8: return "the bound is above 255";
-    case 9: return "the trace has over 4,096 statements or 65,535 bytes";
-    case 10: return "the buffer is shorter than the result";
-    case 11: return "the valuation has not 4 bytes for each input";
+    case KADVITUL_TOO_SHORT: return "the file has fewer than 6 bytes";
+    case KADVITUL_WRONG_VERSION: return "the version byte is wrong: not this kind of file";
+    case KADVITUL_WRONG_LENGTH: return "the length field is not the file's length";
+    case KADVITUL_OVER_LIMIT: return "more inputs or records than allowed";
+    case KADVITUL_BAD_RECORD: return "a record is cut short or of unknown kind, or bytes follow the last record";
+    case KADVITUL_BAD_NUMBER: return "a jump's target or an assigned symbol is against its rule";
+    case KADVITUL_BAD_EXPRESSION: return "an expression is against its rules";
+    case KADVITUL_BOUND_TOO_HIGH: return "the bound is above 255";
+    case KADVITUL_TRACE_TOO_LONG: return "the trace has over 4,096 statements or 65,535 bytes";
+    case KADVITUL_NO_ROOM: return "the buffer is shorter than the result";
+    case KADVITUL_WRONG_VALUATION: return "the valuation has not 4 bytes for each input";
     default: return "a number that kadvitul.h does not list";
     }
 }
@@ -79,9 +79,9 @@ static int refused(const char *what, uint32_t reply, uint32_t offset) {
 
 static int run(const struct bytes *f, uint64_t bound, const uint8_t *valuation, size_t len) {
     uint32_t reply = kadvitul_run_reply(f->at, f->len, bound, valuation, len);
-    if (reply != 0) return refused("run", reply, kadvitul_run_offset(f->at, f->len, bound, valuation, len));
+    if (reply != KADVITUL_DONE) return refused("run", reply, kadvitul_run_offset(f->at, f->len, bound, valuation, len));
     uint32_t back_jumps = kadvitul_run_back_jumps(f->at, f->len, bound, valuation, len);
-    if (kadvitul_run_verdict(f->at, f->len, bound, valuation, len) == 0) {
+    if (kadvitul_run_verdict(f->at, f->len, bound, valuation, len) == KADVITUL_SAFE) {
         printf("safe, back jumps %" PRIu32 ": merge\n", back_jumps);
         return ALL_SAFE;
     }
@@ -92,8 +92,8 @@ static int run(const struct bytes *f, uint64_t bound, const uint8_t *valuation, 
 
 static int judge(const struct bytes *f, const uint8_t *valuation, size_t len) {
     uint32_t reply = kadvitul_judge_reply(f->at, f->len, valuation, len);
-    if (reply != 0) return refused("judging", reply, kadvitul_judge_offset(f->at, f->len, valuation, len));
-    if (kadvitul_judge_verdict(f->at, f->len, valuation, len) == 0) {
+    if (reply != KADVITUL_DONE) return refused("judging", reply, kadvitul_judge_offset(f->at, f->len, valuation, len));
+    if (kadvitul_judge_verdict(f->at, f->len, valuation, len) == KADVITUL_SAFE) {
         printf("safe: merge\n");
         return ALL_SAFE;
     }
@@ -123,7 +123,7 @@ static int decide(const struct bytes *file, const uint64_t *bound, const struct 
 /* A slice is never longer than its trace. */
 static int slice(const uint8_t *trace, uint32_t len, uint8_t *out) {
     uint32_t reply = kadvitul_slice_reply(trace, len, out, len);
-    if (reply != 0) return refused("slice", reply, kadvitul_slice_offset(trace, len, out, len));
+    if (reply != KADVITUL_DONE) return refused("slice", reply, kadvitul_slice_offset(trace, len, out, len));
     printf("slice: %" PRIu32 " of the trace's %" PRIu32 " bytes, reads %" PRIu32 " of %d inputs, mask %" PRIx64 "\n",
            kadvitul_slice_length(trace, len, out, len), len, kadvitul_slice_inputs(trace, len, out, len), trace[3],
            kadvitul_slice_mask(trace, len, out, len));
@@ -131,9 +131,9 @@ static int slice(const uint8_t *trace, uint32_t len, uint8_t *out) {
 }
 
 static int trace_and_slice(const struct bytes *f, uint64_t bound) {
-    uint8_t trace[TRACE_LIMIT], out[TRACE_LIMIT];
+    uint8_t trace[KADVITUL_ROOM], out[KADVITUL_ROOM];
     uint32_t reply = kadvitul_trace_reply(f->at, f->len, bound, trace, sizeof trace);
-    if (reply != 0) return refused("trace", reply, kadvitul_trace_offset(f->at, f->len, bound, trace, sizeof trace));
+    if (reply != KADVITUL_DONE) return refused("trace", reply, kadvitul_trace_offset(f->at, f->len, bound, trace, sizeof trace));
     return slice(trace, kadvitul_trace_length(f->at, f->len, bound, trace, sizeof trace), out);
 }
 
@@ -160,6 +160,10 @@ static int read_bound(const char *text, uint64_t *bound) {
 
 int main(int argc, char **argv) {
     uint64_t bound = 0;
+    if (kadvitul_version() != KADVITUL_VERSION) {
+        fprintf(stderr, "nightly: the archive is not of the header's version, " KADVITUL_VERSION_TEXT ". Build the job again\n");
+        return UNREADABLE;
+    }
     if (argc == 5 && strcmp(argv[1], "rule") == 0 && read_bound(argv[2], &bound)) return job(&bound, argv[3], argv[4]);
     if (argc == 4 && strcmp(argv[1], "trace") == 0) return job(NULL, argv[2], argv[3]);
     fprintf(stderr, "usage: nightly rule BOUND FILE VALUATIONS | nightly trace FILE VALUATIONS\n");

@@ -13,7 +13,7 @@ use Rattle.slice.specs.declared.Answer as Sliced
 use Rattle.slice.specs.Answer.{SliceWritten}
 use Rattle.show.specs.declared.Answer as Shown
 use Rattle.show.specs.Answer.{SliceShown}
-use Rattle.kadvitul.specs.Interface.{RunNumber, RunGives, JudgeNumber, JudgeGives, TraceNumber, TraceGives, SliceNumber, SliceGives}
+use Rattle.kadvitul.specs.Interface.{VersionGives, RunNumber, RunGives, JudgeNumber, JudgeGives, TraceNumber, TraceGives, SliceNumber, SliceGives}
 
 -- ---- the library's calls
 
@@ -41,6 +41,10 @@ pub show-slice-determined : (input out o o′ : List ℕ) (r r′ : Shown.Answer
 show-slice-determined input out o o′ r r′ h k = (h .answer ∙ sym (k .answer), h .buffer ∙ sym (k .buffer))
 
 -- ---- the calls from C, each for its number
+
+-- `kadvitul_version`
+pub version-determined : (r r′ : ℕ) → VersionGives r → VersionGives r′ → r ≡ r′
+version-determined r r′ h k = h .number ∙ sym (k .number)
 
 -- `kadvitul_run_*`
 pub run-gives-determined : (which : RunNumber) (table : List ℕ) (K : ℕ) (valuation : List ℕ) (r r′ : ℕ)

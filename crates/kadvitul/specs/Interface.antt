@@ -43,6 +43,10 @@ judgeBytes trace valuation = judgedBytes valuation (readTrace trace)
 
 -- ---- the numbers that the calls give, one each
 
+-- the archive's version, 1.0.0: 10,000 times the first number, 100 times the second, and the third
+abbrev pub archiveVersion : ℕ
+archiveVersion = 10000
+
 pub data RunNumber : Type 0 where
   RunReply RunOffset RunVerdict RunPlace RunBackJumps : RunNumber
 
@@ -81,6 +85,9 @@ sliceNumber SliceMask q = q .mask
 sliceNumber SliceInputs q = q .inputs
 
 -- ---- what each call gives, and what it leaves in the buffer
+
+pub record VersionGives (r : ℕ) : Type 0 where
+  pub number : r ≡ archiveVersion
 
 pub record RunGives (which : RunNumber) (table : List ℕ) (K : ℕ) (valuation : List ℕ) (r : ℕ) : Type 0 where
   pub number : r ≡ runNumber which (runBytes table K valuation)

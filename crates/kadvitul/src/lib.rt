@@ -4,7 +4,7 @@ ghost use mathlib.Core.Path.{_≡_};
 ghost use Prim.Native.Nat.{_/_, _*_, _≤_};
 ghost use lib.ListN.{length};
 ghost use lib.Seq.{sets};
-ghost use Rattle.kadvitul.specs.Interface.{wordsOf, runBytes, judgeBytes, RunGives, JudgeGives, TraceGives, SliceGives};
+ghost use Rattle.kadvitul.specs.Interface.{wordsOf, runBytes, judgeBytes, VersionGives, RunGives, JudgeGives, TraceGives, SliceGives};
 ghost use Rattle.kadvitul.specs.Interface.{RunReply, RunOffset, RunVerdict, RunPlace, RunBackJumps};
 ghost use Rattle.kadvitul.specs.Interface.{JudgeReply, JudgeOffset, JudgeVerdict, JudgePlace};
 ghost use Rattle.kadvitul.specs.Interface.{TraceReply, TraceOffset, TraceLength};
@@ -55,6 +55,14 @@ fn judge_bytes(trace: &[u8], valuation: &[u8]) -> trace::Answer
     let mut words: [u32; 65] = [0; 65];
     let count = words_in(valuation, &mut words);
     trace::judge(trace, &words[..count])
+}
+
+// The version of the archive, which the header has too.
+#[no_mangle]
+pub extern "C" fn kadvitul_version() -> u32
+    ensures { λ r. ⌜ VersionGives r ⌝ }
+{
+    10000
 }
 
 #[no_mangle]
