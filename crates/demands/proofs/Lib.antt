@@ -1,1 +1,14 @@
+-- All of `specs/Promised.antt`.
+pub mod Promised
+-- Demand 1, row by row.
+pub mod ValuationLaws
+pub mod RowOrder
+pub mod RecordReplies
+pub mod FileReplies
+pub mod RepliesProof
+pub mod RefusalsProof
+-- Demand 3.
+pub mod Demand3Proof
+pub mod Demand3Cases
+-- Calls from C that write one after the other into one buffer.
 pub mod Again

@@ -1,16 +1,10 @@
--- What the user has been promised: each statement, and its proof beside it.
+-- What the user has been promised. The proofs stand in `proofs/`.
+pub mod Promised
+-- Demands 1 and 3.
 pub mod Valuation
-pub mod ValuationLaws
 pub mod Replies
-pub mod RowOrder
-pub mod RecordReplies
-pub mod FileReplies
-pub mod RepliesProof
 pub mod Refusals
 pub mod Demand3
-pub mod Demand3Proof
-pub mod Demand3Cases
--- Each public call's statement determines its answer and its buffer.
+-- Demand 2: each public call's statement determines its answer and its buffer; document 01's marked cases, as one collection.
 pub mod Determined
--- Document 01's marked cases, as one collection.
 pub mod Marked

@@ -1,171 +1,37 @@
 -- Document 01, "Numbered replies": a refusal's other numbers are 0 and safe, and its buffer is as it was; a safe verdict has place 0.
+use mathlib.Core.Path.{_≡_}
+use mathlib.Core.List.{List}
 use Prim.Native.Nat.{ℕ}
-use native.Mathlib.Omega.{arith}
-use mathlib.Core.Path.{_≡_, refl, ap, _∙_, subst⁻¹}
-use mathlib.Core.Bool.{Bool, true, false, cond, _&&_}
-use mathlib.Core.List.{List, []}
-use lib.ListN.{length}
-use lib.Dec.{eqb, leb}
-use Rattle.expr.specs.Eval.{envOf}
-use Rattle.file.specs.Outcome.{Assume, Assert, Bound, Outcome, Ended, Failed, Lost, verdict, placeOf}
-use Rattle.file.specs.File.{headerInputs, Input, Accepted, Refused}
 use Rattle.table.specs.declared.Answer as Ran
-use Rattle.table.specs.Table.{Instr, readTable}
-use Rattle.table.specs.Run.{run}
-use Rattle.table.specs.Answer.{runAnswer}
-use Rattle.table.specs.Answer as Running
 use Rattle.trace.specs.declared.Answer as Judged
-use Rattle.trace.specs.Trace.{Stmt, readTrace, encodeTrace}
-use Rattle.trace.specs.Judge.{judge}
-use Rattle.trace.specs.Answer.{judgeAnswer}
-use Rattle.trace.specs.Answer as Judging
-use Rattle.write.specs.Splice.{over}
 use Rattle.unwind.specs.declared.Answer as Written
-use Rattle.unwind.specs.Unwind.{unwind}
-use Rattle.unwind.specs.Answer.{Traced, traceAnswer, TraceWritten}
-use Rattle.unwind.specs.Answer as Unwinding
+use Rattle.unwind.specs.Answer.{Traced}
 use Rattle.slice.specs.declared.Answer as Kept
-use Rattle.slice.specs.Slice.{slice}
-use Rattle.slice.specs.Answer.{Sliced, sliceAnswer, SliceWritten}
-use Rattle.slice.specs.Answer as Slicing
-use Rattle.kadvitul.specs.Interface.{TraceNumber, TraceReply, TraceLength, traceNumber, TraceGives}
-use Rattle.kadvitul.specs.Interface.{SliceNumber, SliceReply, SliceLength, SliceMask, SliceInputs, sliceNumber, SliceGives}
-use Rattle.demands.specs.Valuation.{Handed, ranWith, judgedWith}
-use Rattle.demands.specs.ValuationLaws.{wordsIn, ran-words, judged-words}
+use Rattle.slice.specs.Answer.{Sliced}
+use Rattle.kadvitul.specs.Interface.{TraceReply, TraceLength, traceNumber, SliceReply, SliceLength, SliceMask, SliceInputs, sliceNumber}
 
-safe-place : (o : Outcome) → verdict o ≡ 0 → placeOf o ≡ 0
-safe-place Ended h = refl
-safe-place (Failed Assume p) h = refl
-safe-place (Failed Assert p) h = absurd (omega arith)
-safe-place (Failed Bound p) h = refl
-safe-place Lost h = refl
-
--- ---- running
-
+-- running, by `run` or from C
 pub record RunRest (a : Ran.Answer) : Type 0 where
   pub refused : (a .reply ≡ 0 → ⊥) → (a .verdict ≡ 0) × (a .place ≡ 0) × (a .«back_jumps» ≡ 0)
   pub safe : a .verdict ≡ 0 → a .place ≡ 0
 
-run-refusal : (r o : ℕ) → RunRest (Running.refusal r o)
-run-refusal r o = record { refused = λ h. (refl, refl, refl); safe = λ h. refl }
-
-run-words-rest : (table : List ℕ) (K : ℕ) (words : List ℕ) → RunRest (runAnswer table K words)
-unfolding runAnswer
-run-words-rest table K words = go (readTable table)
-  where
-    chosen : (b c : Bool) (a : Ran.Answer) → RunRest a → RunRest (cond b (cond c a (Running.refusal 11 0)) (Running.refusal 8 0))
-    chosen true true a h = h
-    chosen true false a h = run-refusal 11 0
-    chosen false c a h = run-refusal 8 0
-
-    go : (x : Input Instr) → RunRest (Running.answered K words x)
-    go (Refused r o) = run-refusal r o
-    go (Accepted S is) =
-        chosen (leb K 255) (eqb (length words) S) (Running.answerOf (run is K words))
-        (record { refused = λ h. absurd (h refl); safe = safe-place ((run is K words) .outcome) })
-
-pub run-rest : (h : Handed) (table : List ℕ) (K : ℕ) (valuation : List ℕ) → RunRest (ranWith h table K valuation)
-run-rest h table K v = subst⁻¹ RunRest (ran-words h table K v) (run-words-rest table K (wordsIn h (headerInputs table) v))
-
--- ---- judging
-
+-- judging, by `judge` or from C
 pub record JudgeRest (a : Judged.Answer) : Type 0 where
   pub refused : (a .reply ≡ 0 → ⊥) → (a .verdict ≡ 0) × (a .place ≡ 0)
   pub safe : a .verdict ≡ 0 → a .place ≡ 0
 
-judge-refusal : (r o : ℕ) → JudgeRest (Judging.refusal r o)
-judge-refusal r o = record { refused = λ h. (refl, refl); safe = λ h. refl }
+-- `write_trace`, with its buffer before and after
+abbrev pub TraceRest : (out out′ : List ℕ) → Written.Answer → Type 0
+TraceRest out out′ r = (r .reply ≡ 0 → ⊥) → (r .length ≡ 0) × (out′ ≡ out)
 
-judge-words-rest : (trace words : List ℕ) → JudgeRest (judgeAnswer trace words)
-unfolding judgeAnswer
-judge-words-rest trace words = go (readTrace trace)
-  where
-    chosen : (c : Bool) (a : Judged.Answer) → JudgeRest a → JudgeRest (cond c a (Judging.refusal 11 0))
-    chosen true a h = h
-    chosen false a h = judge-refusal 11 0
+-- `slice_trace`, likewise
+abbrev pub SliceRest : (out out′ : List ℕ) → Kept.Answer → Type 0
+SliceRest out out′ r = (r .reply ≡ 0 → ⊥) → (r .length ≡ 0) × (r .mask ≡ 0) × (r .inputs ≡ 0) × (out′ ≡ out)
 
-    go : (x : Input Stmt) → JudgeRest (Judging.answered words x)
-    go (Refused r o) = judge-refusal r o
-    go (Accepted S ts) =
-        chosen (eqb (length words) S) (Judging.answerOf (judge ts (envOf words)))
-        (record { refused = λ h. absurd (h refl); safe = safe-place (judge ts (envOf words)) })
+-- any call from C that writes a trace or a slice, of which the calls give the numbers
+abbrev pub TraceGivesRest : Traced → (out out′ : List ℕ) → Type 0
+TraceGivesRest q out out′ = (traceNumber TraceReply q ≡ 0 → ⊥) → (out′ ≡ out) × (traceNumber TraceLength q ≡ 0)
 
-pub judge-rest : (h : Handed) (trace valuation : List ℕ) → JudgeRest (judgedWith h trace valuation)
-judge-rest h trace v = subst⁻¹ JudgeRest (judged-words h trace v) (judge-words-rest trace (wordsIn h (headerInputs trace) v))
-
--- ---- writing a trace
-
-trace-empty : (table : List ℕ) (K room : ℕ) → ((traceAnswer table K room) .reply ≡ 0 → ⊥) → (traceAnswer table K room) .bytes ≡ []
-unfolding traceAnswer
-trace-empty table K room = go (readTable table)
-  where
-    fitted : (b c : Bool) (bytes : List ℕ)
-        → ((cond b (cond c (record { reply = 0; offset = 0; bytes = bytes }) (Unwinding.refusal 10 0)) (Unwinding.refusal 9 0)) .reply ≡ 0 → ⊥)
-        → (cond b (cond c (record { reply = 0; offset = 0; bytes = bytes }) (Unwinding.refusal 10 0)) (Unwinding.refusal 9 0)) .bytes ≡ []
-    fitted true true bytes h = absurd (h refl)
-    fitted true false bytes h = refl
-    fitted false c bytes h = refl
-
-    bounded : (b : Bool) (q : Traced) → ((q .reply ≡ 0 → ⊥) → q .bytes ≡ []) → ((cond b q (Unwinding.refusal 8 0)) .reply ≡ 0 → ⊥)
-        → (cond b q (Unwinding.refusal 8 0)) .bytes ≡ []
-    bounded true q f h = f h
-    bounded false q f h = refl
-
-    go : (x : Input Instr) → ((Unwinding.answered K room x) .reply ≡ 0 → ⊥) → (Unwinding.answered K room x) .bytes ≡ []
-    go (Refused r o) h = refl
-    go (Accepted S is) h =
-        bounded (leb K 255) (Unwinding.traceOf room S (unwind Assume S is K))
-        (fitted (leb (length (unwind Assume S is K)) 4096 && leb (length (encodeTrace S (unwind Assume S is K))) 65535)
-        (leb (length (encodeTrace S (unwind Assume S is K))) room) (encodeTrace S (unwind Assume S is K))) h
-
-pub write-trace-rest : (table : List ℕ) (K : ℕ) (out out′ : List ℕ) (r : Written.Answer) → TraceWritten table K out out′ r → (r .reply ≡ 0 → ⊥)
-    → (r .length ≡ 0) × (out′ ≡ out)
-write-trace-rest table K out out′ r w h = (ap (λ a. a .length) (w .answer) ∙ ap length empty, w .buffer ∙ ap (λ bs. over bs out) empty)
-  where
-    empty : (traceAnswer table K (length out)) .bytes ≡ []
-    empty = trace-empty table K (length out) (λ e. h (ap (λ a. a .reply) (w .answer) ∙ e))
-
--- the calls from C: each leaves a buffer as it was where the reply, which is the number of one of them, is not 0; the length is 0 then
-pub trace-gives-rest : (which : TraceNumber) (table : List ℕ) (K : ℕ) (out out′ : List ℕ) (r : ℕ) → TraceGives which table K out out′ r
-    → (traceNumber TraceReply (traceAnswer table K (length out)) ≡ 0 → ⊥) → (out′ ≡ out) × (traceNumber TraceLength (traceAnswer table K (length out)) ≡ 0)
-trace-gives-rest which table K out out′ r w h =
-    let empty = trace-empty table K (length out) h in
-    (w .buffer ∙ ap (λ bs. over bs out) empty, ap length empty)
-
--- ---- slicing
-
-abbrev Nothing : Sliced → Type 0
-Nothing q = (q .bytes ≡ []) × (q .mask ≡ 0) × (q .inputs ≡ 0)
-
-slice-empty : (trace : List ℕ) (room : ℕ) → ((sliceAnswer trace room) .reply ≡ 0 → ⊥) → Nothing (sliceAnswer trace room)
-unfolding sliceAnswer
-slice-empty trace room = go (readTrace trace)
-  where
-    roomy : (b : Bool) (S : ℕ) (kept : List Stmt) → ((cond b (Slicing.sliceOf S kept) (Slicing.refusal 10 0)) .reply ≡ 0 → ⊥)
-        → Nothing (cond b (Slicing.sliceOf S kept) (Slicing.refusal 10 0))
-    roomy true S kept h = absurd (h refl)
-    roomy false S kept h = (refl, refl, refl)
-
-    go : (x : Input Stmt) → ((Slicing.answered room x) .reply ≡ 0 → ⊥) → Nothing (Slicing.answered room x)
-    go (Refused r o) h = (refl, refl, refl)
-    go (Accepted S ts) h = roomy (leb (length (encodeTrace S (slice ts))) room) S (slice ts) h
-
-pub slice-trace-rest : (trace out out′ : List ℕ) (r : Kept.Answer) → SliceWritten trace out out′ r → (r .reply ≡ 0 → ⊥)
-    → (r .length ≡ 0) × (r .mask ≡ 0) × (r .inputs ≡ 0) × (out′ ≡ out)
-slice-trace-rest trace out out′ r w h = (
-  ap (λ a. a .length) (w .answer) ∙ ap length (empty .0),
-  ap (λ a. a .mask) (w .answer) ∙ empty .1,
-  ap (λ a. a .inputs) (w .answer) ∙ empty .2,
-  w .buffer ∙ ap (λ bs. over bs out) (empty .0),
-)
-  where
-    empty : Nothing (sliceAnswer trace (length out))
-    empty = slice-empty trace (length out) (λ e. h (ap (λ a. a .reply) (w .answer) ∙ e))
-
-pub slice-gives-rest : (which : SliceNumber) (trace out out′ : List ℕ) (r : ℕ) → SliceGives which trace out out′ r
-    → (sliceNumber SliceReply (sliceAnswer trace (length out)) ≡ 0 → ⊥)
-    → (out′ ≡ out) × (sliceNumber SliceLength (sliceAnswer trace (length out)) ≡ 0) × (sliceNumber SliceMask (sliceAnswer trace (length out)) ≡ 0)
-    × (sliceNumber SliceInputs (sliceAnswer trace (length out)) ≡ 0)
-slice-gives-rest which trace out out′ r w h =
-    let empty = slice-empty trace (length out) h in
-    (w .buffer ∙ ap (λ bs. over bs out) (empty .0), ap length (empty .0), empty .1, empty .2)
+abbrev pub SliceGivesRest : Sliced → (out out′ : List ℕ) → Type 0
+SliceGivesRest q out out′ =
+    (sliceNumber SliceReply q ≡ 0 → ⊥) → (out′ ≡ out) × (sliceNumber SliceLength q ≡ 0) × (sliceNumber SliceMask q ≡ 0) × (sliceNumber SliceInputs q ≡ 0)

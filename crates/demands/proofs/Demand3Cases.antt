@@ -23,7 +23,7 @@ use Rattle.slice.specs.Slice.{slice}
 use Rattle.slice.specs.Answer.{sliceAnswer}
 use Rattle.demands.specs.Valuation.{Handed, Words, Bytes, inputIn, ranWith, judgedWith}
 use Rattle.demands.specs.Demand3.{RunUnsafeAt, UnsafeAt, RunOneVerdict, OneVerdict, AgreeOn, Demand3}
-use Rattle.demands.specs.Demand3Proof.{demand3}
+use Rattle.demands.proofs.Demand3Proof.{demand3}
 
 -- ---- the small rule
 

@@ -42,10 +42,10 @@ use Rattle.slice.specs.Answer as Slicing
 use Rattle.slice.specs.Answer.{sliceAnswer}
 use Rattle.expr.specs.Eval.{envOf}
 use Rattle.demands.specs.Valuation.{Handed, ranWith, judgedWith}
-use Rattle.demands.specs.ValuationLaws.{wordsIn, words-length, ran-words, judged-words}
+use Rattle.demands.proofs.ValuationLaws.{wordsIn, words-length, ran-words, judged-words}
 use Rattle.demands.specs.Replies.{Call, Run, Judge, WriteTrace, SliceTrace, bytesOf, Row, Short, Version, Total, Limits, Frame, Rule, Expression, Spare, Bound, Size, Room, Valuation, number, offset, result, When, rank, Demand1}
-use Rattle.demands.specs.RowOrder.{first-same, Clear, clear-past, clear-all}
-use Rattle.demands.specs.FileReplies.{RefusedBy, FileReply, table-reply, trace-reply}
+use Rattle.demands.proofs.RowOrder.{first-same, Clear, clear-past, clear-all}
+use Rattle.demands.proofs.FileReplies.{RefusedBy, FileReply, table-reply, trace-reply}
 
 -- ---- a first row's number and offset are the answer
 

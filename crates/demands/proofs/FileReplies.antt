@@ -17,8 +17,8 @@ use Rattle.file.specs.FileLaws.{records-good, records-bad, records-end, records
 use Rattle.table.specs.Table.{instr, readTable}
 use Rattle.trace.specs.Trace.{atFirst, see, stmt, readTrace}
 use Rattle.demands.specs.Replies.{recordAt, version, limit, Call, fileOf, bytesOf, Framing, Ruling, Wording, Row, Short, Version, Total, Limits, Frame, Rule, Expression, Spare, number, offset, When, rank, FirstRow}
-use Rattle.demands.specs.RowOrder.{Clear, clear-past}
-use Rattle.demands.specs.RecordReplies.{Decided, is-good, is-framing, is-ruling, is-wording, framing-inside, table-decided, Knows, knows-start, trace-decided, knows-next}
+use Rattle.demands.proofs.RowOrder.{Clear, clear-past}
+use Rattle.demands.proofs.RecordReplies.{Decided, is-good, is-framing, is-ruling, is-wording, framing-inside, table-decided, Knows, knows-start, trace-decided, knows-next}
 
 -- a call's first row has this number and offset
 abbrev pub RefusedBy : Call → (reply at : ℕ) → Type 0

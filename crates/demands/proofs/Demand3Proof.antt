@@ -51,7 +51,7 @@ use Rattle.slice.specs.MaskLaws.{mask-bit}
 use Rattle.slice.specs.Answer as Slicing
 use Rattle.slice.specs.Answer.{sliceAnswer}
 use Rattle.demands.specs.Valuation.{Handed, Words, lengthFor, ranWith, judgedWith}
-use Rattle.demands.specs.ValuationLaws.{wordsIn, words-length, words-input, ran-words, judged-words}
+use Rattle.demands.proofs.ValuationLaws.{wordsIn, words-length, words-input, ran-words, judged-words}
 use Rattle.demands.specs.Demand3.{RunUnsafeAt, UnsafeAt, RunOneVerdict, OneVerdict, AgreeOn, OneAnswer, Demand3}
 
 -- ---- what was written is read
