@@ -1,7 +1,8 @@
 /* Kadvitul: a proved checker for merge rules. Version 1.0.0.
  *
- * A rule is a table of bytes, and a trace is a file of bytes too; docs/FORMAT.md says what they hold. Every call takes any bytes at all and
- * gives one number of the documented answer; the calls that belong together give the numbers of one and the same answer. Nothing is kept
+ * A rule is a table of bytes, and a trace is a file of bytes too; docs/FORMAT.md says what they hold. Every call but
+ * kadvitul_version takes any bytes at all and gives one number of the documented answer; the calls that belong together give the numbers of
+ * one and the same answer. Nothing is kept
  * between calls, nothing is allocated, no pointer is kept, and calls may run at the same time on several threads. A pointer may be NULL
  * where its length is 0.
  *
