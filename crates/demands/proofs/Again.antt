@@ -14,7 +14,8 @@ pub record Left (bytes : ℕ → List ℕ) (out out′ : List ℕ) : Type 0 wher
 over-again : (bs out : List ℕ) → over bs (over bs out) ≡ over bs out
 over-again bs out = ap (λ rest. bs ++ rest) (drop-append-seam bs (drop (length bs) out))
 
-pub again : {bytes : ℕ → List ℕ} {out out′ out″ : List ℕ} → Left bytes out out′ → length out″ ≡ length out′ → out″ ≡ over (bytes (length out′)) out′ → Left bytes out out″
+pub again : {bytes : ℕ → List ℕ} {out out′ out″ : List ℕ} → Left bytes out out′ → length out″ ≡ length out′
+    → out″ ≡ over (bytes (length out′)) out′ → Left bytes out out″
 again {bytes} {out} l e b = record {
   room = e ∙ l .room;
   buffer = b ∙ ap₂ (λ n o. over (bytes n) o) (l .room) (l .buffer) ∙ over-again (bytes (length out)) out;

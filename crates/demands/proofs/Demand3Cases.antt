@@ -56,14 +56,17 @@ abbrev firstTrace : List ℕ
 firstTrace = (traceAnswer firstAsserted 0 100) .bytes
 
 first-bytes : All Byte firstAsserted
-first-bytes = all-at Byte firstAsserted (λ i h. ltb-true (getD firstAsserted i 0) 256 (every-below 11 (λ i. ltb (getD firstAsserted i 0) 256) refl i h))
+first-bytes =
+    all-at Byte firstAsserted (λ i h. ltb-true (getD firstAsserted i 0) 256
+    (every-below 11 (λ i. ltb (getD firstAsserted i 0) 256) refl i h))
 
 first-written : (traceAnswer firstAsserted 0 100) .reply ≡ 0
 unfolding traceAnswer readTable readFile headerReply records recordOf frame instr parseFrom readToken operator fits unwind places encode
 first-written = refl
 
 first-sliced : ((sliceAnswer firstTrace 100) .reply ≡ 0) × ((sliceAnswer firstTrace 100) .mask ≡ 1)
-unfolding traceAnswer readTable readFile headerReply records recordOf frame instr parseFrom readToken operator fits unwind places encode sliceAnswer readTrace stmt
+unfolding traceAnswer readTable readFile headerReply records recordOf frame instr parseFrom readToken operator fits unwind places encode
+    sliceAnswer readTrace stmt
     slice
 first-sliced = (refl, refl)
 
@@ -91,7 +94,8 @@ agree-elsewhere Bytes = record { first-length = refl; second-length = refl; read
 pub one-verdict-elsewhere : (h : Handed)
     → RunOneVerdict (ranWith h firstAsserted 0 (five-and h 6)) (ranWith h firstAsserted 0 (five-and h 7))
     × OneVerdict (judgedWith h firstTrace (five-and h 6)) (judgedWith h firstTrace (five-and h 7))
-    × OneVerdict (judgedWith h ((sliceAnswer firstTrace 100) .bytes) (five-and h 6)) (judgedWith h ((sliceAnswer firstTrace 100) .bytes) (five-and h 7))
+    × OneVerdict (judgedWith h ((sliceAnswer firstTrace 100) .bytes) (five-and h 6))
+    (judgedWith h ((sliceAnswer firstTrace 100) .bytes) (five-and h 7))
 one-verdict-elsewhere h =
     ((demand3 firstAsserted 0 100 first-bytes first-written) .alike h 100 (first-sliced .0)) .read-decides (five-and h 6) (five-and h 7)
     (subst (λ m. AgreeOn h 2 m (five-and h 6) (five-and h 7)) (sym (first-sliced .1)) (agree-elsewhere h))

@@ -77,7 +77,8 @@ module _ (b : List ℕ) (K S : ℕ) (is : List Instr) (t : List ℕ) (o : All By
   unfolding sliceAnswer
   slice-answer room h = go (leb (length (encodeTrace S (slice ts))) room) (ap (Slicing.answered room) read-back)
     where
-      go : (x : Bool) → sliceAnswer t room ≡ cond x (Slicing.sliceOf S (slice ts)) (Slicing.refusal 10 0) → sliceAnswer t room ≡ Slicing.sliceOf S (slice ts)
+      go : (x : Bool) → sliceAnswer t room ≡ cond x (Slicing.sliceOf S (slice ts)) (Slicing.refusal 10 0)
+          → sliceAnswer t room ≡ Slicing.sliceOf S (slice ts)
       go true q = q
       go false q = absurd (let z : _≡_ {A = ℕ} 0 10 = sym h ∙ ap (λ q. q .reply) q in omega arith)
 
@@ -91,7 +92,8 @@ module _ (b : List ℕ) (K S : ℕ) (is : List Instr) (t : List ℕ) (o : All By
   unfolding runAnswer
   run-tested v =
       ap (Running.answered K v) (w .accepted)
-      ∙ ap (λ x. cond x (cond (eqb (length v) S) (Running.answerOf (run is K v)) (Running.refusal 11 0)) (Running.refusal 8 0)) (le-leb K 255 (w .bound))
+      ∙ ap (λ x. cond x (cond (eqb (length v) S) (Running.answerOf (run is K v)) (Running.refusal 11 0)) (Running.refusal 8 0))
+      (le-leb K 255 (w .bound))
 
   -- of any trace that is read with the table's inputs and has the run's verdict and place
   judged-like-run : (s : List ℕ) (us : List Stmt) → readTrace s ≡ Accepted S us → (v : List ℕ)
@@ -100,7 +102,8 @@ module _ (b : List ℕ) (K S : ℕ) (is : List Instr) (t : List ℕ) (o : All By
   unfolding judgeAnswer
   judged-like-run s us a v h = ap (Judging.answered v) a ∙ go (eqb (length v) S) ∙ sym (ap judged (run-tested v))
     where
-      go : (x : Bool) → cond x (Judging.answerOf (judge us (envOf v))) (Judging.refusal 11 0) ≡ judged (cond x (Running.answerOf (run is K v)) (Running.refusal 11 0))
+      go : (x : Bool) → cond x (Judging.answerOf (judge us (envOf v))) (Judging.refusal 11 0)
+          ≡ judged (cond x (Running.answerOf (run is K v)) (Running.refusal 11 0))
       go true = λ i. record { reply = 0; offset = 0; verdict = h .0 i; place = h .1 i }
       go false = refl
 
@@ -116,11 +119,13 @@ module _ (b : List ℕ) (K S : ℕ) (is : List Instr) (t : List ℕ) (o : All By
   -- ---- what is not read cannot matter
 
   -- the inputs that the slice reads are the mask's; past the inputs both valuations are 0
-  read-same : (v u : List ℕ) → AgreeOn Words S (inputMask S (slice ts)) v u → (x : ℕ) → readsTrace x (slice ts) ≡ true → envOf v x ≡ envOf u x
+  read-same : (v u : List ℕ) → AgreeOn Words S (inputMask S (slice ts)) v u → (x : ℕ) → readsTrace x (slice ts) ≡ true
+      → envOf v x ≡ envOf u x
   read-same v u a x r =
       elim (decLt x S) [
         | yes l ↦ a .read-inputs x l (mask-bit S (λ s. readsTrace s (slice ts)) x l ∙ ap test r)
-        | no l ↦ List·getD-eq-default v 0 {n = x} (omega (arith, a .first-length)) ∙ sym (List·getD-eq-default u 0 {n = x} (omega (arith, a .second-length)))
+        | no l ↦ List·getD-eq-default v 0 {n = x} (omega (arith, a .first-length))
+            ∙ sym (List·getD-eq-default u 0 {n = x} (omega (arith, a .second-length)))
       ]
 
   run-done : (v : List ℕ) → length v ≡ S → runAnswer b K v ≡ Running.answerOf (run is K v)
@@ -145,7 +150,8 @@ module _ (b : List ℕ) (K S : ℕ) (is : List Instr) (t : List ℕ) (o : All By
 
   verdict-same : (v u : List ℕ) (j k : Judged.Answer) → j ≡ judged (runAnswer b K v) → k ≡ judged (runAnswer b K u)
       → RunOneVerdict (runAnswer b K v) (runAnswer b K u) → OneVerdict j k
-  verdict-same v u j k e f h = (ap (λ a. a .verdict) e ∙ h .0 ∙ sym (ap (λ a. a .verdict) f), ap (λ a. a .place) e ∙ h .1 ∙ sym (ap (λ a. a .place) f))
+  verdict-same v u j k e f h =
+      (ap (λ a. a .verdict) e ∙ h .0 ∙ sym (ap (λ a. a .verdict) f), ap (λ a. a .place) e ∙ h .1 ∙ sym (ap (λ a. a .place) f))
 
   words-answer : OneAnswer Words b K t (Slicing.sliceOf S (slice ts))
   words-answer = record {
@@ -158,7 +164,8 @@ module _ (b : List ℕ) (K S : ℕ) (is : List Instr) (t : List ℕ) (o : All By
         let one = run-decided v u (subst (λ n. AgreeOn Words n (inputMask S (slice ts)) v u) inputs a) in (
           one,
           verdict-same v u (judgeAnswer t v) (judgeAnswer t u) (judged-trace v) (judged-trace u) one,
-          verdict-same v u (judgeAnswer (encodeTrace S (slice ts)) v) (judgeAnswer (encodeTrace S (slice ts)) u) (judged-slice v) (judged-slice u) one,
+          verdict-same v u (judgeAnswer (encodeTrace S (slice ts)) v) (judgeAnswer (encodeTrace S (slice ts)) u) (judged-slice v)
+              (judged-slice u) one,
         );
   }
 
@@ -169,7 +176,8 @@ module _ (b : List ℕ) (K S : ℕ) (is : List Instr) (t : List ℕ) (o : All By
     ran v = ran-words h b K v ∙ ap (λ n. runAnswer b K (wordsIn h n v)) inputs
 
     -- judging a trace that is read with the table's inputs
-    judged-as : (s : List ℕ) (us : List Stmt) → readTrace s ≡ Accepted S us → (v : List ℕ) → judgedWith h s v ≡ judgeAnswer s (wordsIn h S v)
+    judged-as : (s : List ℕ) (us : List Stmt) → readTrace s ≡ Accepted S us → (v : List ℕ)
+        → judgedWith h s v ≡ judgeAnswer s (wordsIn h S v)
     judged-as s us a v = judged-words h s v ∙ ap (λ n. judgeAnswer s (wordsIn h n v)) (trace-inputs s S us a)
 
     whole : (v : List ℕ) → judgedWith h t v ≡ judgeAnswer t (wordsIn h S v)
@@ -179,7 +187,8 @@ module _ (b : List ℕ) (K S : ℕ) (is : List Instr) (t : List ℕ) (o : All By
     cut v = judged-as (encodeTrace S (slice ts)) (slice ts) slice-back v
 
     -- what agrees as it is handed agrees in words
-    agree-words : (mask : ℕ) (v u : List ℕ) → AgreeOn h (headerInputs b) mask v u → AgreeOn Words (headerInputs b) mask (wordsIn h S v) (wordsIn h S u)
+    agree-words : (mask : ℕ) (v u : List ℕ) → AgreeOn h (headerInputs b) mask v u
+        → AgreeOn Words (headerInputs b) mask (wordsIn h S v) (wordsIn h S u)
     agree-words mask v u a =
         subst (λ n. AgreeOn Words n mask (wordsIn h S v) (wordsIn h S u)) (sym inputs)
         (record {
@@ -201,15 +210,28 @@ module _ (b : List ℕ) (K S : ℕ) (is : List Instr) (t : List ℕ) (o : All By
           (ap (λ a. a .reply) (ran v) ∙ n .0, ap (λ a. a .reply) (whole v) ∙ n .1, ap (λ a. a .reply) (cut v) ∙ n .2);
       run-trace = λ v p.
           subst⁻¹ (λ a. RunUnsafeAt p a ↔ UnsafeAt p (judgedWith h t v)) (ran v)
-          (subst⁻¹ (λ a. RunUnsafeAt p (runAnswer b K (wordsIn h S v)) ↔ UnsafeAt p a) (whole v) (words-answer .run-trace (wordsIn h S v) p));
+          (subst⁻¹ (λ a. RunUnsafeAt p (runAnswer b K (wordsIn h S v)) ↔ UnsafeAt p a) (whole v)
+          (words-answer .run-trace (wordsIn h S v) p));
       run-slice = λ v p.
           subst⁻¹ (λ a. RunUnsafeAt p a ↔ UnsafeAt p (judgedWith h (encodeTrace S (slice ts)) v)) (ran v)
           (subst⁻¹ (λ a. RunUnsafeAt p (runAnswer b K (wordsIn h S v)) ↔ UnsafeAt p a) (cut v) (words-answer .run-slice (wordsIn h S v) p));
       read-decides = λ v u a.
           let d = words-answer .read-decides (wordsIn h S v) (wordsIn h S u) (agree-words (inputMask S (slice ts)) v u a) in (
-            (ap (λ a. a .verdict) (ran v) ∙ d .0 .0 ∙ sym (ap (λ a. a .verdict) (ran u)), ap (λ a. a .place) (ran v) ∙ d .0 .1 ∙ sym (ap (λ a. a .place) (ran u))),
-            (ap (λ a. a .verdict) (whole v) ∙ d .1 .0 ∙ sym (ap (λ a. a .verdict) (whole u)), ap (λ a. a .place) (whole v) ∙ d .1 .1 ∙ sym (ap (λ a. a .place) (whole u))),
-            (ap (λ a. a .verdict) (cut v) ∙ d .2 .0 ∙ sym (ap (λ a. a .verdict) (cut u)), ap (λ a. a .place) (cut v) ∙ d .2 .1 ∙ sym (ap (λ a. a .place) (cut u))),
+            (
+              ap (λ a. a .verdict) (ran v) ∙ d .0 .0 ∙ sym (ap (λ a. a .verdict) (ran u)),
+              ap (λ a. a .place) (ran v)
+                  ∙ d .0 .1 ∙ sym (ap (λ a. a .place) (ran u)),
+            ),
+            (
+              ap (λ a. a .verdict) (whole v) ∙ d .1 .0 ∙ sym (ap (λ a. a .verdict) (whole u)),
+              ap (λ a. a .place) (whole v)
+                  ∙ d .1 .1 ∙ sym (ap (λ a. a .place) (whole u)),
+            ),
+            (
+              ap (λ a. a .verdict) (cut v) ∙ d .2 .0 ∙ sym (ap (λ a. a .verdict) (cut u)),
+              ap (λ a. a .place) (cut v)
+                  ∙ d .2 .1 ∙ sym (ap (λ a. a .place) (cut u)),
+            ),
           );
     }
 

@@ -12,13 +12,16 @@ use Rattle.expr.specs.declared.File.{File}
 use Rattle.expr.specs.declared.File.the-variants.{Table, Trace}
 use Rattle.expr.specs.Lists.{All, and-both, both-and}
 use Rattle.expr.specs.Number.{Byte, numberOf}
-use Rattle.file.specs.File.{headerInputs, headerCount, headerReply, Body, Good, Records, Read, Stop, Input, Accepted, Refused, recordOf, before, records, finish, readFile}
+use Rattle.file.specs.File.{headerInputs, headerCount, headerReply, Body, Good, Records, Read, Stop, Input, Accepted, Refused, recordOf}
+use Rattle.file.specs.File.{before, records, finish, readFile}
 use Rattle.file.specs.FileLaws.{records-good, records-bad, records-end, records-spare, header-is, file-refused, file-read}
 use Rattle.table.specs.Table.{instr, readTable}
 use Rattle.trace.specs.Trace.{atFirst, see, stmt, readTrace}
-use Rattle.demands.specs.Replies.{recordAt, version, limit, Call, fileOf, bytesOf, Framing, Ruling, Wording, Row, Short, Version, Total, Limits, Frame, Rule, Expression, Spare, number, offset, When, rank, FirstRow}
+use Rattle.demands.specs.Replies.{recordAt, version, limit, Call, fileOf, bytesOf, Framing, Ruling, Wording, Row, Short, Version}
+use Rattle.demands.specs.Replies.{Total, Limits, Frame, Rule, Expression, Spare, number, offset, When, rank, FirstRow}
 use Rattle.demands.proofs.RowOrder.{Clear, clear-past}
-use Rattle.demands.proofs.RecordReplies.{Decided, is-good, is-framing, is-ruling, is-wording, framing-inside, table-decided, Knows, knows-start, trace-decided, knows-next}
+use Rattle.demands.proofs.RecordReplies.{Decided, is-good, is-framing, is-ruling, is-wording, framing-inside, table-decided, Knows}
+use Rattle.demands.proofs.RecordReplies.{knows-start, trace-decided, knows-next}
 
 -- a call's first row has this number and offset
 abbrev pub RefusedBy : Call → (reply at : ℕ) → Type 0
@@ -74,13 +77,18 @@ module _ (c : Call) where
           let q = sym p ∙ both-and (leb S 64) (leb n (limit (fileOf c))) (le-leb S 64 (h .0)) (le-leb n (limit (fileOf c)) (h .1)) in
           let z : _≡_ {A = ℕ} 0 1 = cc in omega arith
 
-      go : (x : Bool) → leb 6 (length s) ≡ x → (y : Bool) → eqb (getD s 0 0) (version (fileOf c)) ≡ y → (z : Bool) → eqb (numberOf 2 (drop 1 s)) (length s) ≡ z
+      go : (x : Bool) → leb 6 (length s) ≡ x → (y : Bool) → eqb (getD s 0 0) (version (fileOf c)) ≡ y → (z : Bool)
+          → eqb (numberOf 2 (drop 1 s)) (length s) ≡ z
           → (w : Bool) → (leb S 64 && leb n (limit (fileOf c))) ≡ w → HeaderReply c (cond x (cond y (cond z (cond w 0 4) 3) 2) 1)
-      go false p y q z r w t = header-refused Short (first Short (λ other l w. omega arith) (leb-false 6 (length s) p)) refl (λ e. omega arith)
-      go true p false q z r w t = header-refused Version (first Version (no-short p) (eqb-false (getD s 0 0) (version (fileOf c)) q)) refl (λ e. omega arith)
+      go false p y q z r w t =
+          header-refused Short (first Short (λ other l w. omega arith) (leb-false 6 (length s) p)) refl (λ e. omega arith)
+      go true p false q z r w t =
+          header-refused Version (first Version (no-short p) (eqb-false (getD s 0 0) (version (fileOf c)) q)) refl (λ e. omega arith)
       go true p true q false r w t =
-          header-refused Total (first Total (no-version (no-short p) q) (eqb-false (numberOf 2 (drop 1 s)) (length s) r)) refl (λ e. omega arith)
-      go true p true q true r false t = header-refused Limits (first Limits (no-total (no-version (no-short p) q) r) (outside t)) refl (λ e. omega arith)
+          header-refused Total (first Total (no-version (no-short p) q) (eqb-false (numberOf 2 (drop 1 s)) (length s) r)) refl
+          (λ e. omega arith)
+      go true p true q true r false t =
+          header-refused Limits (first Limits (no-total (no-version (no-short p) q) r) (outside t)) refl (λ e. omega arith)
       go true p true q true r true t = header-passed (no-limits (no-total (no-version (no-short p) q) r) t)
 
 -- ---- record after record
@@ -88,7 +96,8 @@ module _ (c : Call) where
 module _ {A St : Type 0} (c : Call) (one : St → List ℕ → Body A) (next : St → A → St) (Inv : ℕ → St → Type 0)
     (decided : (k : ℕ) (σ : St) → Inv k σ
     → Decided (fileOf c) (bytesOf c) k (recordAt (bytesOf c) k) (recordOf (one σ) (drop (recordAt (bytesOf c) k) (bytesOf c))))
-    (kept : (k : ℕ) (σ : St) → Inv k σ → (a : A) → recordOf (one σ) (drop (recordAt (bytesOf c) k) (bytesOf c)) ≡ Good a → Inv (suc k) (next σ a)) where
+    (kept : (k : ℕ) (σ : St) → Inv k σ → (a : A) → recordOf (one σ) (drop (recordAt (bytesOf c) k) (bytesOf c)) ≡ Good a
+    → Inv (suc k) (next σ a)) where
   abbrev at : ℕ → ℕ
   at k = recordAt (bytesOf c) k
 
@@ -101,13 +110,15 @@ module _ {A St : Type 0} (c : Call) (one : St → List ℕ → Body A) (next : S
   reply-before a (Stop r bs) h = h
 
   -- a refusal with the bytes from record k on
-  reply-stop : (k : ℕ) (row : Row) → at k ≤ length (s c) → offset (s c) row ≡ at k → When c row → Clear c (rank (n c) row) → Reply (Stop (number row) (drop (at k) (s c)))
+  reply-stop : (k : ℕ) (row : Row) → at k ≤ length (s c) → offset (s c) row ≡ at k → When c row → Clear c (rank (n c) row)
+      → Reply (Stop (number row) (drop (at k) (s c)))
   reply-stop k row h e w clear = (row, refl, omega (arith, length-drop (at k) (s c)), first c row clear w)
 
   nothing-left : (k : ℕ) (σ : St) → k ≡ n c → at k ≤ length (s c) → Clear c (4 + 3 * k) → Reply (records one next 0 σ (drop (at k) (s c)))
   nothing-left k σ e l clear =
       elim (decLt (at k) (length (s c))) [
-        | yes h ↦ subst Reply (sym (records-spare one next (s c) (at k) σ h)) (reply-stop k Spare l (ap at (sym e)) (subst (λ m. at m < length (s c)) e h) here)
+        | yes h ↦ subst Reply (sym (records-spare one next (s c) (at k) σ h))
+            (reply-stop k Spare l (ap at (sym e)) (subst (λ m. at m < length (s c)) e h) here)
         | no h ↦
             subst Reply (sym (records-end one next (s c) (at k) σ (omega arith)))
             (clear-past c Spare (5 + 3 * n c) tt (omega arith) here (λ w. h (subst (λ m. at m < length (s c)) (sym e) w)))
@@ -131,17 +142,23 @@ module _ {A St : Type 0} (c : Call) (one : St → List ℕ → Body A) (next : S
         → ((a : A) → recordOf (one σ) (drop (at k) (s c)) ≡ Good a → at (suc k) ≤ length (s c) → Clear c (4 + 3 * suc k)
         → Reply (records one next j (next σ a) (drop (at (suc k)) (s c))))
         → Reply (records one next (suc j) σ (drop (at k) (s c)))
-    record-reply x e (is-framing f) rest = subst Reply (sym (records-bad one next (s c) (at k) j σ 5 e)) (reply-stop k (Frame k) l refl (more, f) clear)
-    record-reply x e (is-ruling f r) rest = subst Reply (sym (records-bad one next (s c) (at k) j σ 6 e)) (reply-stop k (Rule k) l refl (more, r) (no-frame f))
+    record-reply x e (is-framing f) rest = subst Reply (sym (records-bad one next (s c) (at k) j σ 5 e))
+        (reply-stop k (Frame k) l refl (more, f) clear)
+    record-reply x e (is-ruling f r) rest = subst Reply (sym (records-bad one next (s c) (at k) j σ 6 e))
+        (reply-stop k (Rule k) l refl (more, r) (no-frame f))
     record-reply x e (is-wording f r w) rest =
-        subst Reply (sym (records-bad one next (s c) (at k) j σ 7 e)) (reply-stop k (Expression k) l refl (more, w) (no-rule (no-frame f) r))
+        subst Reply (sym (records-bad one next (s c) (at k) j σ 7 e))
+        (reply-stop k (Expression k) l refl (more, w) (no-rule (no-frame f) r))
     record-reply x e (is-good a f r w) rest =
         let inside = framing-inside (fileOf c) (s c) (at k) f in
         subst Reply
-        (sym (records-good one next (s c) (at k) j σ a e ∙ ap (λ m. before a (records one next j (next σ a) (drop (at k + (2 + m)) (s c)))) (inside .1)))
-        (reply-before a (records one next j (next σ a) (drop (at (suc k)) (s c))) (rest a e (inside .0) (no-wording (no-rule (no-frame f) r) w)))
+        (sym (records-good one next (s c) (at k) j σ a e ∙ ap (λ m. before a (records one next j (next σ a) (drop (at k + (2 + m)) (s c))))
+        (inside .1)))
+        (reply-before a (records one next j (next σ a) (drop (at (suc k)) (s c)))
+        (rest a e (inside .0) (no-wording (no-rule (no-frame f) r) w)))
 
-  records-reply : (j k : ℕ) (σ : St) → Inv k σ → k + j ≡ n c → at k ≤ length (s c) → Clear c (4 + 3 * k) → Reply (records one next j σ (drop (at k) (s c)))
+  records-reply : (j k : ℕ) (σ : St) → Inv k σ → k + j ≡ n c → at k ≤ length (s c) → Clear c (4 + 3 * k)
+      → Reply (records one next j σ (drop (at k) (s c)))
   records-reply zero k σ i e l clear = nothing-left k σ (omega arith) l clear
   records-reply (suc j) k σ i e l clear =
       record-reply j k σ (omega arith) l clear (recordOf (one σ) (drop (at k) (s c))) refl (decided k σ i)
@@ -150,25 +167,31 @@ module _ {A St : Type 0} (c : Call) (one : St → List ℕ → Body A) (next : S
 -- ---- the file
 
 -- any file: what its reader knows after k records is `Inv k`, and each record is read as its rows decide
-module _ {A St : Type 0} (c : Call) (F : File) (is : fileOf c ≡ F) (one : (S n : ℕ) → St → List ℕ → Body A) (next : St → A → St) (start : (S : ℕ) → St)
+module _ {A St : Type 0} (c : Call) (F : File) (is : fileOf c ≡ F) (one : (S n : ℕ) → St → List ℕ → Body A) (next : St → A → St)
+    (start : (S : ℕ) → St)
     (Inv : ℕ → St → Type 0) (started : Inv 0 (start (headerInputs (bytesOf c))))
     (decided : (k : ℕ) (σ : St) → Inv k σ → Decided F (bytesOf c) k (recordAt (bytesOf c) k)
     (recordOf (one (headerInputs (bytesOf c)) (headerCount (bytesOf c)) σ) (drop (recordAt (bytesOf c) k) (bytesOf c))))
     (kept : (k : ℕ) (σ : St) → Inv k σ → (a : A)
-    → recordOf (one (headerInputs (bytesOf c)) (headerCount (bytesOf c)) σ) (drop (recordAt (bytesOf c) k) (bytesOf c)) ≡ Good a → Inv (suc k) (next σ a)) where
+    → recordOf (one (headerInputs (bytesOf c)) (headerCount (bytesOf c)) σ) (drop (recordAt (bytesOf c) k) (bytesOf c)) ≡ Good a
+    → Inv (suc k) (next σ a)) where
   abbrev body : (S n : ℕ) → List ℕ → Records A
   body S n bs = records (one S n) next n (start S) bs
 
   file-reply : FileReply c (readFile (version F) (limit F) body (bytesOf c))
-  file-reply = go (headerReply (version F) (limit F) (s c)) refl (subst (λ G. HeaderReply c (headerReply (version G) (limit G) (s c))) is (header-reply c))
+  file-reply =
+      go (headerReply (version F) (limit F) (s c)) refl (subst (λ G. HeaderReply c (headerReply (version G) (limit G) (s c))) is
+      (header-reply c))
     where
       go : (r : ℕ) → headerReply (version F) (limit F) (s c) ≡ r → HeaderReply c r → FileReply c (readFile (version F) (limit F) body (s c))
-      go r e (header-refused row f o z) = subst (FileReply c) (sym (file-refused (version F) (limit F) body (s c) (number row) e z)) (row, refl, o, f)
+      go r e (header-refused row f o z) =
+          subst (FileReply c) (sym (file-refused (version F) (limit F) body (s c) (number row) e z)) (row, refl, o, f)
       go r e (header-passed clear) =
           let reader = one (S c) (n c) in
           subst (FileReply c) (sym (file-read (version F) (limit F) body (s c) e))
           (records-reply c reader next Inv
-          (λ k σ i. subst (λ G. Decided G (s c) k (recordAt (s c) k) (recordOf (reader σ) (drop (recordAt (s c) k) (s c)))) (sym is) (decided k σ i))
+          (λ k σ i. subst (λ G. Decided G (s c) k (recordAt (s c) k) (recordOf (reader σ) (drop (recordAt (s c) k) (s c)))) (sym is)
+          (decided k σ i))
           kept (n c) 0 (start (S c)) started (omega arith) (header-is (version F) (limit F) (s c) e .long) clear)
 
 pub table-reply : (c : Call) → fileOf c ≡ Table → All Byte (bytesOf c) → FileReply c (readTable (bytesOf c))
@@ -181,4 +204,5 @@ pub trace-reply : (c : Call) → fileOf c ≡ Trace → All Byte (bytesOf c) →
 unfolding readTrace
 trace-reply c is o =
     file-reply c Trace is (λ S n. stmt (S + 4096)) see atFirst (Knows (bytesOf c)) (knows-start (bytesOf c))
-    (λ k σ w. trace-decided (bytesOf c) o k (recordAt (bytesOf c) k) σ w) (λ k σ w a g. knows-next (bytesOf c) k σ w (headerInputs (bytesOf c) + 4096) a g)
+    (λ k σ w. trace-decided (bytesOf c) o k (recordAt (bytesOf c) k) σ w)
+    (λ k σ w a g. knows-next (bytesOf c) k σ w (headerInputs (bytesOf c) + 4096) a g)

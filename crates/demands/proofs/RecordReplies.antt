@@ -28,7 +28,10 @@ use Rattle.table.specs.TableLaws as TableLaws
 use Rattle.trace.specs.Trace as TraceSpec
 use Rattle.trace.specs.Trace.{Stmt, Seen, atFirst, see, stmt}
 use Rattle.trace.specs.TraceLaws as TraceLaws
-use Rattle.demands.specs.Replies.{recordAt, lengthAt, kindAt, numberAt, exprAt, fields, assignedBefore, mayRead, IsExpr, Framing, length-missing, passes-the-end, length-zero, unknown-kind, fields-missing, Ruling, symbol-not-below, target-past-the-end, symbol-of-an-input, symbol-too-high, symbol-not-greater, Wording, no-expression}
+use Rattle.demands.specs.Replies.{recordAt, lengthAt, kindAt, numberAt, exprAt, fields, assignedBefore, mayRead, IsExpr, Framing}
+use Rattle.demands.specs.Replies.{length-missing, passes-the-end, length-zero, unknown-kind, fields-missing, Ruling}
+use Rattle.demands.specs.Replies.{symbol-not-below, target-past-the-end, symbol-of-an-input, symbol-too-high, symbol-not-greater}
+use Rattle.demands.specs.Replies.{Wording, no-expression}
 
 -- what a record is read as, by its rows
 pub data Decided {A : Type 0} (F : File) (s : List ℕ) (k at : ℕ) : Body A → Type 0 where
@@ -101,7 +104,8 @@ module _ (s : List ℕ) (at : ℕ) (there : frame (drop at s) ≡ 0 → ⊥) whe
 
 module _ (F : File) (may : ℕ → Bool) (bs : List ℕ) where
   whole-is-expr : (e : List Token) → All Byte bs → parse F may bs ≡ Whole e → IsExpr F may bs
-  whole-is-expr e o h = let a = parse-accepted F may bs e o h in record { tokens = e; written = a .bytes; operands = a .holds; right = a .ok }
+  whole-is-expr e o h = let a = parse-accepted F may bs e o h in
+      record { tokens = e; written = a .bytes; operands = a .holds; right = a .ok }
 
   expr-unbroken : (rest : List ℕ) → parse F may bs ≡ Breaks rest → IsExpr F may bs → ⊥
   expr-unbroken rest h x =
@@ -132,7 +136,8 @@ module _ (F : File) (s : List ℕ) (o : All Byte s) (k at : ℕ) (there : frame 
     no-framing (unknown-kind l) = let q = sym e ∙ l in let z : _≡_ {A = ℕ} 0 1 = cc in omega arith
     no-framing (fields-missing n l p) = let q = sym e ∙ l in let z : m ≡ n = cc in omega arith
 
-    worded : {A : Type 0} (f : List Token → A) → (Ruling F s k at → ⊥) → Decided F s k at (holding f (parse F (mayRead F s k) (exprAt s at m)))
+    worded : {A : Type 0} (f : List Token → A) → (Ruling F s k at → ⊥)
+        → Decided F s k at (holding f (parse F (mayRead F s k) (exprAt s at m)))
     worded f r = go (parse F (mayRead F s k) (exprAt s at m)) refl
       where
         bytes : All Byte (exprAt s at m)
@@ -205,7 +210,8 @@ module _ (s : List ℕ) (o : All Byte s) (k at : ℕ) where
         (λ l.
         let h : 2 ≤ lengthAt s at = omega (arith, rest-length s at there) in
         let q : y ≡ numberAt s at 1 1 = number-is s at there 1 1 h in
-        subst (λ bs. TableRow (rule (ltb y S) (holding (TableSpec.Assign y) (parse Table (below S) bs)))) (sym (drop-drop 1 1 instrBytes ∙ expr-is s at there 2))
+        subst (λ bs. TableRow (rule (ltb y S) (holding (TableSpec.Assign y) (parse Table (below S) bs))))
+        (sym (drop-drop 1 1 instrBytes ∙ expr-is s at there 2))
         (ruled Table s o k at there 2 (fields-known Table s at 1 e) h (TableSpec.Assign y) (ltb y S) (symbol-ruled y q kind)
         (λ u. symbol-not-below kind (omega (arith, q, ltb-false y S u))))))
 
@@ -219,7 +225,8 @@ module _ (s : List ℕ) (o : All Byte s) (k at : ℕ) where
         (λ l.
         let h : 3 ≤ lengthAt s at = omega (arith, rest-length s at there) in
         let q : y ≡ numberAt s at 1 2 = number-is s at there 1 2 h in
-        subst (λ bs. TableRow (rule (leb y n) (holding (TableSpec.IfThenGoto y) (parse Table (below S) bs)))) (sym (drop-drop 2 1 instrBytes ∙ expr-is s at there 3))
+        subst (λ bs. TableRow (rule (leb y n) (holding (TableSpec.IfThenGoto y) (parse Table (below S) bs))))
+        (sym (drop-drop 2 1 instrBytes ∙ expr-is s at there 3))
         (ruled Table s o k at there 3 (fields-known Table s at 4 e) h (TableSpec.IfThenGoto y) (leb y n) (target-ruled y q kind)
         (λ u. target-past-the-end kind (omega (arith, q, leb-false y n u))))))
 
@@ -246,7 +253,8 @@ module _ (s : List ℕ) (o : All Byte s) (k at : ℕ) where
         go false e false f false g true h = instr-goto-decided h
         go false e false f false g false h =
             let other = kind-other s at there in
-            subst TableRow (sym (TableLaws.kind-unknown S n instrBytes (body-some s at there) (other 1 e) (other 2 f) (other 3 g) (other 4 h)))
+            subst TableRow (sym (TableLaws.kind-unknown S n instrBytes (body-some s at there) (other 1 e) (other 2 f) (other 3 g)
+            (other 4 h)))
             (is-framing (unknown-kind (rw (e, f, g, h))))
 
   pub table-decided : Decided Table s k at (recordOf (instr (headerInputs s) (headerCount s)) (drop at s))
@@ -311,7 +319,8 @@ module _ (s : List ℕ) (o : All Byte s) (k at : ℕ) (σ : Seen) (w : Knows s k
   stmt-unruled u (symbol-not-greater i e l v p) = u e
 
   module _ (there : frame (drop at s) ≡ 0 → ⊥) where
-    parse-is : (m : ℕ) (bs : List ℕ) → bs ≡ drop m stmtBytes → parse Trace (σ .readable) bs ≡ parse Trace (mayRead Trace s k) (exprAt s at m)
+    parse-is : (m : ℕ) (bs : List ℕ) → bs ≡ drop m stmtBytes → parse Trace (σ .readable) bs ≡ parse Trace (mayRead Trace s k)
+        (exprAt s at m)
     parse-is m bs e = ap₂ (parse Trace) (w .reads) (e ∙ expr-is s at there m)
 
     stmt-assign-decided : eqb (kindAt s at) 1 ≡ true → Decided Trace s k at (stmt top σ stmtBytes)
@@ -332,7 +341,8 @@ module _ (s : List ℕ) (o : All Byte s) (k at : ℕ) (σ : Seen) (w : Knows s k
         let q : y ≡ numberAt s at 3 2 = ap (numberOf 2) (drop-drop 2 1 stmtBytes) ∙ number-is s at there 3 2 h in
         subst (λ x. TraceRow (rule (leb (σ .least) y && ltb y top) (holding (TraceSpec.Assign p y) x)))
         (sym (parse-is 5 (drop 2 r) (ap (drop 2) (drop-drop 2 1 stmtBytes) ∙ drop-drop 2 3 stmtBytes)))
-        (ruled Trace s o k at there 5 (fields-known Trace s at 1 e) h (TraceSpec.Assign p y) (leb (σ .least) y && ltb y top) (stmt-ruled y q) (stmt-against y q kind)))))
+        (ruled Trace s o k at there 5 (fields-known Trace s at 1 e) h (TraceSpec.Assign p y) (leb (σ .least) y && ltb y top)
+        (stmt-ruled y q) (stmt-against y q kind)))))
 
     stmt-test-decided : (v : ℕ) (t : Kind) → eqb (kindAt s at) v ≡ true → fields Trace v ≡ some 3 → (v ≡ 1 → ⊥)
         → stmt top σ stmtBytes ≡ field 2 (drop 1 stmtBytes) (TraceSpec.testAt σ t) → Decided Trace s k at (stmt top σ stmtBytes)
@@ -354,9 +364,11 @@ module _ (s : List ℕ) (o : All Byte s) (k at : ℕ) (σ : Seen) (w : Knows s k
             → Decided Trace s k at (stmt top σ stmtBytes)
         go true e y f z g = stmt-assign-decided e
         go false e true f z g =
-            stmt-test-decided 2 Assume f refl (λ q. omega arith) (TraceLaws.kind-assume top σ stmtBytes (body-some s at there) (kind-known s at there 2 f))
+            stmt-test-decided 2 Assume f refl (λ q. omega arith)
+            (TraceLaws.kind-assume top σ stmtBytes (body-some s at there) (kind-known s at there 2 f))
         go false e false f true g =
-            stmt-test-decided 3 Assert g refl (λ q. omega arith) (TraceLaws.kind-assert top σ stmtBytes (body-some s at there) (kind-known s at there 3 g))
+            stmt-test-decided 3 Assert g refl (λ q. omega arith)
+            (TraceLaws.kind-assert top σ stmtBytes (body-some s at there) (kind-known s at there 3 g))
         go false e false f false g =
             let other = kind-other s at there in
             subst TraceRow (sym (TraceLaws.kind-unknown top σ stmtBytes (body-some s at there) (other 1 e) (other 2 f) (other 3 g)))
@@ -377,12 +389,14 @@ module _ (s : List ℕ) (k : ℕ) (σ : Seen) (w : Knows s k σ) where
   abbrev at : ℕ
   at = recordAt s k
 
-  knows-assign : (p y : ℕ) (e : List Token) → kindAt s at ≡ 1 → y ≡ numberAt s at 3 2 → σ .least ≤ y → Knows s (suc k) (see σ (TraceSpec.Assign p y e))
+  knows-assign : (p y : ℕ) (e : List Token) → kindAt s at ≡ 1 → y ≡ numberAt s at 3 2 → σ .least ≤ y
+      → Knows s (suc k) (see σ (TraceSpec.Assign p y e))
   knows-assign p y e q r l = record {
     reads = fun-ext (λ x.
         ap₂ (λ z f. eqb x z || f x) r (w .reads)
         ∙ or-exchange (eqb x (numberAt s at 3 2)) (below (headerInputs s) x) (assignedBefore s k x)
-        ∙ sym (ap (λ b. below (headerInputs s) x || ((b && eqb x (numberAt s at 3 2)) || assignedBefore s k x)) (eq-eqb (kindAt s at) 1 q)));
+        ∙ sym (ap (λ b. below (headerInputs s) x || ((b && eqb x (numberAt s at 3 2)) || assignedBefore s k x))
+        (eq-eqb (kindAt s at) 1 q)));
     above = omega (arith, w .above);
     greater = λ i h u. elim (decLt i k) [
       | yes m ↦ omega (arith, w .greater i m u)

@@ -93,7 +93,8 @@ unfolding traceAnswer
 trace-empty table K room = go (readTable table)
   where
     fitted : (b c : Bool) (bytes : List ℕ)
-        → ((cond b (cond c (record { reply = 0; offset = 0; bytes = bytes }) (Unwinding.refusal 10 0)) (Unwinding.refusal 9 0)) .reply ≡ 0 → ⊥)
+        → ((cond b (cond c (record { reply = 0; offset = 0; bytes = bytes }) (Unwinding.refusal 10 0)) (Unwinding.refusal 9 0)) .reply ≡ 0
+        → ⊥)
         → (cond b (cond c (record { reply = 0; offset = 0; bytes = bytes }) (Unwinding.refusal 10 0)) (Unwinding.refusal 9 0)) .bytes ≡ []
     fitted true true bytes h = absurd (h refl)
     fitted true false bytes h = refl
@@ -111,7 +112,8 @@ trace-empty table K room = go (readTable table)
         (fitted (leb (length (unwind Assume S is K)) 4096 && leb (length (encodeTrace S (unwind Assume S is K))) 65535)
         (leb (length (encodeTrace S (unwind Assume S is K))) room) (encodeTrace S (unwind Assume S is K))) h
 
-pub write-trace-rest : (table : List ℕ) (K : ℕ) (out out′ : List ℕ) (r : Written.Answer) → TraceWritten table K out out′ r → TraceRest out out′ r
+pub write-trace-rest : (table : List ℕ) (K : ℕ) (out out′ : List ℕ) (r : Written.Answer) → TraceWritten table K out out′ r
+    → TraceRest out out′ r
 write-trace-rest table K out out′ r w h = (ap (λ a. a .length) (w .answer) ∙ ap length empty, w .buffer ∙ ap (λ bs. over bs out) empty)
   where
     empty : (traceAnswer table K (length out)) .bytes ≡ []

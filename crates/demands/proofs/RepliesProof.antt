@@ -43,7 +43,8 @@ use Rattle.slice.specs.Answer.{sliceAnswer}
 use Rattle.expr.specs.Eval.{envOf}
 use Rattle.demands.specs.Valuation.{Handed, ranWith, judgedWith}
 use Rattle.demands.proofs.ValuationLaws.{wordsIn, words-length, ran-words, judged-words}
-use Rattle.demands.specs.Replies.{Call, Run, Judge, WriteTrace, SliceTrace, bytesOf, Row, Short, Version, Total, Limits, Frame, Rule, Expression, Spare, Bound, Size, Room, Valuation, number, offset, result, When, rank, Demand1}
+use Rattle.demands.specs.Replies.{Call, Run, Judge, WriteTrace, SliceTrace, bytesOf, Row, Short, Version, Total, Limits, Frame, Rule}
+use Rattle.demands.specs.Replies.{Expression, Spare, Bound, Size, Room, Valuation, number, offset, result, When, rank, Demand1}
 use Rattle.demands.proofs.RowOrder.{first-same, Clear, clear-past, clear-all}
 use Rattle.demands.proofs.FileReplies.{RefusedBy, FileReply, table-reply, trace-reply}
 
@@ -79,7 +80,8 @@ first-demand c reply at (some-row (row, m, o, f)) = record {
   done-offset = λ e. absurd (omega (arith, number-positive row));
   refused = λ k p h. (
     λ e. (row, m ∙ e .0, o ∙ e .1, f),
-    λ g. let same = first-same c row (g .0) f (g .3) in (sym m ∙ ap number (sym same) ∙ g .1, sym o ∙ ap (offset (bytesOf c)) (sym same) ∙ g .2),
+    λ g. let same =
+        first-same c row (g .0) f (g .3) in (sym m ∙ ap number (sym same) ∙ g .1, sym o ∙ ap (offset (bytesOf c)) (sym same) ∙ g .2),
   );
 }
 
@@ -127,15 +129,21 @@ module _ (h : Handed) (t : List ℕ) (K : ℕ) (v : List ℕ) where
       go : (y : Bool) → eqb (length runWords) S ≡ y → First runs
           ((cond y (Running.answerOf a) (Running.refusal 11 0)) .reply) ((cond y (Running.answerOf a) (Running.refusal 11 0)) .offset)
       go false f = at-row runs Valuation bounded (λ l. eqb-false (length runWords) S f (words-length h (headerInputs t) v .1 l ∙ i))
-      go true f = no-row refl refl (no-valuation runs bounded (λ l. l (words-length h (headerInputs t) v .0 (eqb-true (length runWords) S f ∙ sym i))))
+      go true f =
+          no-row refl refl (no-valuation runs bounded
+          (λ l. l (words-length h (headerInputs t) v .0 (eqb-true (length runWords) S f ∙ sym i))))
 
-  run-first : (i : Input Instr) → readTable t ≡ i → FileReply runs i → First runs ((Running.answered K runWords i) .reply) ((Running.answered K runWords i) .offset)
+  run-first : (i : Input Instr) → readTable t ≡ i → FileReply runs i
+      → First runs ((Running.answered K runWords i) .reply) ((Running.answered K runWords i) .offset)
   run-first (Refused r at) q f = some-row f
-  run-first (Accepted S is) q clear = run-tested S (table-inputs t S is q) clear (leb K 255) refl (eqb (length runWords) S) refl (run is K runWords)
+  run-first (Accepted S is) q clear =
+      run-tested S (table-inputs t S is q) clear (leb K 255) refl (eqb (length runWords) S) refl (run is K runWords)
 
   run-words-demand1 : All Byte t → Demand1 runs ((runAnswer t K runWords) .reply) ((runAnswer t K runWords) .offset)
   unfolding runAnswer
-  run-words-demand1 o = first-demand runs ((runAnswer t K runWords) .reply) ((runAnswer t K runWords) .offset) (run-first (readTable t) refl (table-reply runs refl o))
+  run-words-demand1 o =
+      first-demand runs ((runAnswer t K runWords) .reply) ((runAnswer t K runWords) .offset)
+      (run-first (readTable t) refl (table-reply runs refl o))
 
   pub run-demand1 : All Byte t → Demand1 (Run h t K v) ((ranWith h t K v) .reply) ((ranWith h t K v) .offset)
   run-demand1 o = subst⁻¹ (λ a. Demand1 runs (a .reply) (a .offset)) (ran-words h t K v) (run-words-demand1 o)
@@ -150,25 +158,34 @@ module _ (h : Handed) (t v : List ℕ) where
   abbrev judgeWords : List ℕ
   judgeWords = wordsIn h (headerInputs t) v
 
-  judge-tested : (S : ℕ) → headerInputs t ≡ S → Clear judges (5 + 3 * headerCount t) → (y : Bool) → eqb (length judgeWords) S ≡ y → (a : Outcome)
-      → First judges ((cond y (Judging.answerOf a) (Judging.refusal 11 0)) .reply) ((cond y (Judging.answerOf a) (Judging.refusal 11 0)) .offset)
+  judge-tested : (S : ℕ) → headerInputs t ≡ S → Clear judges (5 + 3 * headerCount t) → (y : Bool) → eqb (length judgeWords) S ≡ y
+      → (a : Outcome)
+      → First judges ((cond y (Judging.answerOf a) (Judging.refusal 11 0)) .reply)
+      ((cond y (Judging.answerOf a) (Judging.refusal 11 0)) .offset)
   judge-tested S i clear y f a = go y f
     where
       unbounded : Clear judges (8 + 3 * headerCount t)
       unbounded = no-room judges (no-size judges (no-bound judges clear (λ l. l)) (λ l. l)) (λ l. l)
 
       go : (y : Bool) → eqb (length judgeWords) S ≡ y
-          → First judges ((cond y (Judging.answerOf a) (Judging.refusal 11 0)) .reply) ((cond y (Judging.answerOf a) (Judging.refusal 11 0)) .offset)
+          → First judges ((cond y (Judging.answerOf a) (Judging.refusal 11 0)) .reply)
+          ((cond y (Judging.answerOf a) (Judging.refusal 11 0)) .offset)
       go false f = at-row judges Valuation unbounded (λ l. eqb-false (length judgeWords) S f (words-length h (headerInputs t) v .1 l ∙ i))
-      go true f = no-row refl refl (no-valuation judges unbounded (λ l. l (words-length h (headerInputs t) v .0 (eqb-true (length judgeWords) S f ∙ sym i))))
+      go true f =
+          no-row refl refl (no-valuation judges unbounded
+          (λ l. l (words-length h (headerInputs t) v .0 (eqb-true (length judgeWords) S f ∙ sym i))))
 
-  judge-first : (i : Input Stmt) → readTrace t ≡ i → FileReply judges i → First judges ((Judging.answered judgeWords i) .reply) ((Judging.answered judgeWords i) .offset)
+  judge-first : (i : Input Stmt) → readTrace t ≡ i → FileReply judges i → First judges ((Judging.answered judgeWords i) .reply)
+      ((Judging.answered judgeWords i) .offset)
   judge-first (Refused r at) q f = some-row f
-  judge-first (Accepted S ts) q clear = judge-tested S (trace-inputs t S ts q) clear (eqb (length judgeWords) S) refl (judge ts (envOf judgeWords))
+  judge-first (Accepted S ts) q clear =
+      judge-tested S (trace-inputs t S ts q) clear (eqb (length judgeWords) S) refl (judge ts (envOf judgeWords))
 
   judge-words-demand1 : All Byte t → Demand1 judges ((judgeAnswer t judgeWords) .reply) ((judgeAnswer t judgeWords) .offset)
   unfolding judgeAnswer
-  judge-words-demand1 o = first-demand judges ((judgeAnswer t judgeWords) .reply) ((judgeAnswer t judgeWords) .offset) (judge-first (readTrace t) refl (trace-reply judges refl o))
+  judge-words-demand1 o =
+      first-demand judges ((judgeAnswer t judgeWords) .reply) ((judgeAnswer t judgeWords) .offset)
+      (judge-first (readTrace t) refl (trace-reply judges refl o))
 
   pub judge-demand1 : All Byte t → Demand1 (Judge h t v) ((judgedWith h t v) .reply) ((judgedWith h t v) .offset)
   judge-demand1 o = subst⁻¹ (λ a. Demand1 judges (a .reply) (a .offset)) (judged-words h t v) (judge-words-demand1 o)
@@ -186,10 +203,12 @@ module _ (t : List ℕ) (K room : ℕ) where
   -- a trace of these statements and bytes, by the tests for 8, 9 and 10
   abbrev traced : (bytes : List ℕ) (x y z : Bool) → Tracing.Traced
   traced bytes x y z =
-      cond x (cond y (cond z (record { reply = 0; offset = 0; bytes = bytes }) (Tracing.refusal 10 0)) (Tracing.refusal 9 0)) (Tracing.refusal 8 0)
+      cond x (cond y (cond z (record { reply = 0; offset = 0; bytes = bytes }) (Tracing.refusal 10 0)) (Tracing.refusal 9 0))
+      (Tracing.refusal 8 0)
 
   trace-tested : (count : ℕ) (bytes : List ℕ) → length unwound ≡ count → result writing ≡ bytes → Clear writing (5 + 3 * headerCount t)
-      → (x : Bool) → leb K 255 ≡ x → (y : Bool) → (leb count 4096 && leb (length bytes) 65535) ≡ y → (z : Bool) → leb (length bytes) room ≡ z
+      → (x : Bool) → leb K 255 ≡ x → (y : Bool) → (leb count 4096 && leb (length bytes) 65535) ≡ y → (z : Bool)
+      → leb (length bytes) room ≡ z
       → First writing ((traced bytes x y z) .reply) ((traced bytes x y z) .offset)
   trace-tested count bytes i j clear false e y f z g = at-row writing Bound clear (leb-false K 255 e)
   trace-tested count bytes i j clear true e y f z g = go y f z g
@@ -210,13 +229,19 @@ module _ (t : List ℕ) (K room : ℕ) where
       sized : (leb count 4096 && leb (length bytes) 65535) ≡ true → Clear writing (7 + 3 * headerCount t)
       sized f =
           let k = and-both (leb count 4096) (leb (length bytes) 65535) f in
-          no-size writing bounded (λ h. h (omega (arith, leb-true count 4096 (k .0)), omega (arith, leb-true (length bytes) 65535 (k .1), total)))
+          no-size writing bounded (λ h. h (
+            omega (arith, leb-true count 4096 (k .0)),
+            omega
+                (arith, leb-true (length bytes) 65535 (k .1), total),
+          ))
 
       go : (y : Bool) → (leb count 4096 && leb (length bytes) 65535) ≡ y → (z : Bool) → leb (length bytes) room ≡ z
           → First writing ((traced bytes true y z) .reply) ((traced bytes true y z) .offset)
       go false f z g = at-row writing Size bounded (long f)
       go true f false g = at-row writing Room (sized f) (omega (arith, leb-false (length bytes) room g, total))
-      go true f true g = no-row refl refl (no-valuation writing (no-room writing (sized f) (λ h. omega (arith, leb-true (length bytes) room g, total))) (λ h. h))
+      go true f true g =
+          no-row refl refl (no-valuation writing (no-room writing (sized f) (λ h. omega (arith, leb-true (length bytes) room g, total)))
+          (λ h. h))
 
   trace-first : (i : Input Instr) → readTable t ≡ i → FileReply (WriteTrace t K room) i
       → First (WriteTrace t K room) ((Tracing.answered K room i) .reply) ((Tracing.answered K room i) .offset)
@@ -231,7 +256,8 @@ module _ (t : List ℕ) (K room : ℕ) where
   pub write-trace-demand1 : All Byte t → Demand1 (WriteTrace t K room) ((traceAnswer t K room) .reply) ((traceAnswer t K room) .offset)
   unfolding traceAnswer
   write-trace-demand1 o =
-      first-demand writing ((traceAnswer t K room) .reply) ((traceAnswer t K room) .offset) (trace-first (readTable t) refl (table-reply writing refl o))
+      first-demand writing ((traceAnswer t K room) .reply) ((traceAnswer t K room) .offset)
+      (trace-first (readTable t) refl (table-reply writing refl o))
 
 -- ---- slicing: 10
 
@@ -241,7 +267,8 @@ module _ (t : List ℕ) (room : ℕ) where
 
   slice-tested : (S : ℕ) (kept : List Stmt) → result slicing ≡ encodeTrace S kept → Clear slicing (5 + 3 * headerCount t)
       → (y : Bool) → leb (length (encodeTrace S kept)) room ≡ y
-      → First slicing ((cond y (Slicing.sliceOf S kept) (Slicing.refusal 10 0)) .reply) ((cond y (Slicing.sliceOf S kept) (Slicing.refusal 10 0)) .offset)
+      → First slicing ((cond y (Slicing.sliceOf S kept) (Slicing.refusal 10 0)) .reply)
+      ((cond y (Slicing.sliceOf S kept) (Slicing.refusal 10 0)) .offset)
   slice-tested S kept i clear y f = go y f
     where
       total : length (result slicing) ≡ length (encodeTrace S kept)
@@ -251,17 +278,22 @@ module _ (t : List ℕ) (room : ℕ) where
       unsized = no-size slicing (no-bound slicing clear (λ h. h)) (λ h. h)
 
       go : (y : Bool) → leb (length (encodeTrace S kept)) room ≡ y
-          → First slicing ((cond y (Slicing.sliceOf S kept) (Slicing.refusal 10 0)) .reply) ((cond y (Slicing.sliceOf S kept) (Slicing.refusal 10 0)) .offset)
+          → First slicing ((cond y (Slicing.sliceOf S kept) (Slicing.refusal 10 0)) .reply)
+          ((cond y (Slicing.sliceOf S kept) (Slicing.refusal 10 0)) .offset)
       go false f = at-row slicing Room unsized (omega (arith, leb-false (length (encodeTrace S kept)) room f, total))
-      go true f = no-row refl refl (no-valuation slicing (no-room slicing unsized (λ h. omega (arith, leb-true (length (encodeTrace S kept)) room f, total))) (λ h. h))
+      go true f =
+          no-row refl refl (no-valuation slicing
+          (no-room slicing unsized (λ h. omega (arith, leb-true (length (encodeTrace S kept)) room f, total))) (λ h. h))
 
   slice-first : (i : Input Stmt) → readTrace t ≡ i → FileReply (SliceTrace t room) i
       → First (SliceTrace t room) ((Slicing.answered room i) .reply) ((Slicing.answered room i) .offset)
   slice-first (Refused r at) q f = some-row f
   slice-first (Accepted S ts) q clear =
-      slice-tested S (slice ts) (ap₂ (λ S ts. encodeTrace S (slice ts)) (trace-inputs t S ts q) (ap listed q)) clear (leb (length (encodeTrace S (slice ts))) room) refl
+      slice-tested S (slice ts) (ap₂ (λ S ts. encodeTrace S (slice ts)) (trace-inputs t S ts q) (ap listed q)) clear
+      (leb (length (encodeTrace S (slice ts))) room) refl
 
   pub slice-trace-demand1 : All Byte t → Demand1 (SliceTrace t room) ((sliceAnswer t room) .reply) ((sliceAnswer t room) .offset)
   unfolding sliceAnswer
   slice-trace-demand1 o =
-      first-demand slicing ((sliceAnswer t room) .reply) ((sliceAnswer t room) .offset) (slice-first (readTrace t) refl (trace-reply slicing refl o))
+      first-demand slicing ((sliceAnswer t room) .reply) ((sliceAnswer t room) .offset)
+      (slice-first (readTrace t) refl (trace-reply slicing refl o))

@@ -6,7 +6,8 @@ use mathlib.Core.Bool.{Bool, true, false}
 use lib.Dec.{eqb}
 use borrow.Author.Tests.{eqb-true, eqb-false}
 use Rattle.file.specs.File.{headerCount}
-use Rattle.demands.specs.Replies.{Call, bytesOf, Row, Short, Version, Total, Limits, Frame, Rule, Expression, Spare, Bound, Size, Room, Valuation, When, rank, FirstRow}
+use Rattle.demands.specs.Replies.{Call, bytesOf, Row, Short, Version, Total, Limits, Frame, Rule, Expression, Spare, Bound, Size}
+use Rattle.demands.specs.Replies.{Room, Valuation, When, rank, FirstRow}
 
 -- a record's row is of one of the n records
 abbrev pub Inside : (n : ℕ) → Row → Type 0
@@ -49,7 +50,8 @@ row-skip zero n k p =
     ap₂ (λ m q. rowFrom m k q) (let e : 0 + n ≡ n = omega arith in e) (let e : 3 * 0 + p ≡ p = omega arith in e)
     ∙ ap (λ x. rowFrom n x p) (let e : k ≡ k + 0 = omega arith in e)
 row-skip (suc j) n k p =
-    ap₂ (λ m q. rowFrom m k q) (let e : suc j + n ≡ suc (j + n) = omega arith in e) (let e : 3 * suc j + p ≡ suc (suc (suc (3 * j + p))) = omega arith in e)
+    ap₂ (λ m q. rowFrom m k q) (let e : suc j + n ≡ suc (j + n) = omega arith in e)
+    (let e : 3 * suc j + p ≡ suc (suc (suc (3 * j + p))) = omega arith in e)
     ∙ row-skip j n (suc k) p
     ∙ ap (λ x. rowFrom n x p) (let e : suc k + j ≡ k + suc j = omega arith in e)
 

@@ -13,12 +13,14 @@ use Rattle.slice.specs.declared.Answer as Sliced
 use Rattle.slice.specs.Answer.{SliceWritten}
 use Rattle.show.specs.declared.Answer as Shown
 use Rattle.show.specs.Answer.{SliceShown}
-use Rattle.kadvitul.specs.Interface.{VersionGives, RunNumber, RunGives, JudgeNumber, JudgeGives, TraceNumber, TraceGives, SliceNumber, SliceGives}
+use Rattle.kadvitul.specs.Interface.{VersionGives, RunNumber, RunGives, JudgeNumber, JudgeGives, TraceNumber, TraceGives, SliceNumber}
+use Rattle.kadvitul.specs.Interface.{SliceGives}
 
 -- ---- the library's calls
 
 -- `run`, which is lent nothing to change
-pub run-determined : (table : List ℕ) (K : ℕ) (words : List ℕ) (r r′ : Ran.Answer) → RunAnswered table K words r → RunAnswered table K words r′ → r ≡ r′
+pub run-determined : (table : List ℕ) (K : ℕ) (words : List ℕ) (r r′ : Ran.Answer) → RunAnswered table K words r
+    → RunAnswered table K words r′ → r ≡ r′
 run-determined table K words r r′ h k = h .answer ∙ sym (k .answer)
 
 -- `judge`, which is lent nothing to change

@@ -138,6 +138,7 @@ all-hold [] h = tt
 all-hold (m number question told ∷ cs) h = (cc, all-hold cs cc)
 
 pub marked-hold : All Holds marked
-unfolding runAnswer readTable readFile headerReply records recordOf frame instr parseFrom readToken operator fits run value unary binary remainderByZero signed
+unfolding runAnswer readTable readFile headerReply records recordOf frame instr parseFrom readToken operator fits run value unary binary
+    remainderByZero signed
     judgeAnswer readTrace stmt judge traceAnswer unwind places encode sliceAnswer slice ones
 marked-hold = all-hold marked refl

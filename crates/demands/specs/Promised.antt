@@ -1,5 +1,6 @@
 -- What the user has been promised, as one list. Each line is a theorem on bytes, over the answers that the calls are proved to give;
--- `proofs/Promised.antt` proves it. With the contracts of the calls, this page and the definitions that it names are what a reader believes.
+-- `proofs/Promised.antt` proves it. With the contracts of the calls, this page and the definitions that it names are what a reader
+-- believes.
 use Prim.Native.Nat.{ℕ}
 use mathlib.Core.Path.{_≡_}
 use mathlib.Core.List.{List}
@@ -18,10 +19,14 @@ use Rattle.demands.specs.Demand3.{Demand3}
 
 pub record Promised : Type 0 where
   -- demand 1: a numbered refusal exactly when its row is the first that holds
-  pub run-replies : (h : Handed) (t : List ℕ) (K : ℕ) (v : List ℕ) → All Byte t → Demand1 (Run h t K v) ((ranWith h t K v) .reply) ((ranWith h t K v) .offset)
-  pub judge-replies : (h : Handed) (t v : List ℕ) → All Byte t → Demand1 (Judge h t v) ((judgedWith h t v) .reply) ((judgedWith h t v) .offset)
-  pub trace-replies : (t : List ℕ) (K room : ℕ) → All Byte t → Demand1 (WriteTrace t K room) ((traceAnswer t K room) .reply) ((traceAnswer t K room) .offset)
-  pub slice-replies : (t : List ℕ) (room : ℕ) → All Byte t → Demand1 (SliceTrace t room) ((sliceAnswer t room) .reply) ((sliceAnswer t room) .offset)
+  pub run-replies : (h : Handed) (t : List ℕ) (K : ℕ) (v : List ℕ) → All Byte t
+      → Demand1 (Run h t K v) ((ranWith h t K v) .reply) ((ranWith h t K v) .offset)
+  pub judge-replies : (h : Handed) (t v : List ℕ) → All Byte t
+      → Demand1 (Judge h t v) ((judgedWith h t v) .reply) ((judgedWith h t v) .offset)
+  pub trace-replies : (t : List ℕ) (K room : ℕ) → All Byte t → Demand1 (WriteTrace t K room) ((traceAnswer t K room) .reply)
+      ((traceAnswer t K room) .offset)
+  pub slice-replies : (t : List ℕ) (room : ℕ) → All Byte t → Demand1 (SliceTrace t room) ((sliceAnswer t room) .reply)
+      ((sliceAnswer t room) .offset)
   -- demand 1: what a refusal leaves
   pub run-rest : (h : Handed) (t : List ℕ) (K : ℕ) (v : List ℕ) → RunRest (ranWith h t K v)
   pub judge-rest : (h : Handed) (t v : List ℕ) → JudgeRest (judgedWith h t v)
@@ -29,6 +34,7 @@ pub record Promised : Type 0 where
   pub slice-rest : (t out out′ : List ℕ) (r : Kept.Answer) → SliceWritten t out out′ r → SliceRest out out′ r
   pub trace-gives-rest : (which : TraceNumber) (t : List ℕ) (K : ℕ) (out out′ : List ℕ) (r : ℕ) → TraceGives which t K out out′ r
       → TraceGivesRest (traceAnswer t K (length out)) out out′
-  pub slice-gives-rest : (which : SliceNumber) (t out out′ : List ℕ) (r : ℕ) → SliceGives which t out out′ r → SliceGivesRest (sliceAnswer t (length out)) out out′
+  pub slice-gives-rest : (which : SliceNumber) (t out out′ : List ℕ) (r : ℕ) → SliceGives which t out out′ r
+      → SliceGivesRest (sliceAnswer t (length out)) out out′
   -- demand 3, for every table and bound for which the trace is written; demand 2 is the calls' contracts, `Determined` and `Marked`
   pub demand3 : (b : List ℕ) (K room : ℕ) → All Byte b → (traceAnswer b K room) .reply ≡ 0 → Demand3 b K ((traceAnswer b K room) .bytes)

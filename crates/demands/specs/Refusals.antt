@@ -34,4 +34,5 @@ TraceGivesRest q out out′ = (traceNumber TraceReply q ≡ 0 → ⊥) → (out�
 
 abbrev pub SliceGivesRest : Sliced → (out out′ : List ℕ) → Type 0
 SliceGivesRest q out out′ =
-    (sliceNumber SliceReply q ≡ 0 → ⊥) → (out′ ≡ out) × (sliceNumber SliceLength q ≡ 0) × (sliceNumber SliceMask q ≡ 0) × (sliceNumber SliceInputs q ≡ 0)
+    (sliceNumber SliceReply q ≡ 0 → ⊥) → (out′ ≡ out) × (sliceNumber SliceLength q ≡ 0) × (sliceNumber SliceMask q ≡ 0)
+    × (sliceNumber SliceInputs q ≡ 0)

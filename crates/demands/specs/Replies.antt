@@ -210,9 +210,10 @@ pub record FirstRow (c : Call) (row : Row) : Type 0 where
   pub holds : When c row
   pub none-before : (other : Row) → rank (headerCount (bytesOf c)) other < rank (headerCount (bytesOf c)) row → When c other → ⊥
 
--- demand 1, of a call that answers with this reply and offset: it is done exactly if no row holds; and it refuses with a number at an offset
--- exactly if a row of that number and offset holds and no row before it
+-- demand 1, of a call that answers with this reply and offset: it is done exactly if no row holds; and it refuses with a number at an
+-- offset exactly if a row of that number and offset holds and no row before it
 pub record Demand1 (c : Call) (reply at : ℕ) : Type 0 where
   pub done : (reply ≡ 0) ↔ ((row : Row) → When c row → ⊥)
   pub done-offset : reply ≡ 0 → at ≡ 0
-  pub refused : (k o : ℕ) → 0 < k → ((reply ≡ k) × (at ≡ o)) ↔ ((row : Row) × (number row ≡ k) × (offset (bytesOf c) row ≡ o) × FirstRow c row)
+  pub refused : (k o : ℕ) → 0 < k → ((reply ≡ k) × (at ≡ o))
+      ↔ ((row : Row) × (number row ≡ k) × (offset (bytesOf c) row ≡ o) × FirstRow c row)

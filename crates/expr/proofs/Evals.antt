@@ -32,7 +32,8 @@ module _ (F : File) (vals e : List ℕ) where
     pub deep : depth ≤ 17
     pub long : length words ≡ 17
     pub whole : isWhole (parseFrom F (below (length vals)) depth 0 (drop at e)) ≡ true
-    pub same : valueFrom (envOf vals) (stackOf words depth) (parseFrom F (below (length vals)) depth 0 (drop at e)) ≡ valueOf (envOf vals) (parse F (below (length vals)) e)
+    pub same : valueFrom (envOf vals) (stackOf words depth) (parseFrom F (below (length vals)) depth 0 (drop at e)) ≡ valueOf (envOf vals)
+        (parse F (below (length vals)) e)
 
   pub start : (words : List ℕ) → length words ≡ 17 → isWhole (parse F (below (length vals)) e) ≡ true → Evaluating words 0 0
   unfolding stackOf
@@ -49,7 +50,8 @@ module _ (F : File) (vals e : List ℕ) where
       pub some-byte : 1 ≤ m
       pub then : Evaluating w′ d (at + m)
 
-    pub on : at < length e → (w′ : List ℕ) (d m : ℕ) → m ≡ sizeOf F (readToken F (drop at e)) → Stepped (envOf vals) (readToken F (drop at e)) words depth w′ d → Turned w′ d m
+    pub on : at < length e → (w′ : List ℕ) (d m : ℕ) → m ≡ sizeOf F (readToken F (drop at e))
+        → Stepped (envOf vals) (readToken F (drop at e)) words depth w′ d → Turned w′ d m
     on h w′ d m q s =
         let g = went h in
         let k = g .2 in
@@ -66,7 +68,8 @@ module _ (F : File) (vals e : List ℕ) where
             long = s .long ∙ v .long;
             whole = sym (whole-also t (rest (at + m) d)) ∙ sym (ap isWhole same) ∙ v .whole;
             same =
-                ap (λ st. valueFrom (envOf vals) st (rest (at + m) d)) (s .stack ∙ ap (λ o. stepped (envOf vals) o (stackOf words depth)) (k .is-read))
+                ap (λ st. valueFrom (envOf vals) st (rest (at + m) d))
+                (s .stack ∙ ap (λ o. stepped (envOf vals) o (stackOf words depth)) (k .is-read))
                 ∙ sym (value-also (envOf vals) (stackOf words depth) t (rest (at + m) d))
                 ∙ sym (ap (valueFrom (envOf vals) (stackOf words depth)) same)
                 ∙ v .same;
@@ -81,7 +84,9 @@ module _ (F : File) (vals e : List ℕ) where
       where
         go : (x : Bool) → eqb depth 1 ≡ x → depth ≡ 1
         go true q = eqb-true depth 1 q
-        go false q = absurd (let z = sym (v .whole) ∙ ap isWhole (at-end h ∙ ap (λ x. cond x (Whole []) (Breaks [])) q) in let y : _≡_ {A = ℕ} 0 1 = cc in omega arith)
+        go false q =
+            absurd (let z = sym (v .whole) ∙ ap isWhole (at-end h ∙ ap (λ x. cond x (Whole []) (Breaks [])) q) in let y : _≡_ {A = ℕ} 0 1 =
+            cc in omega arith)
 
     -- the last word is the value
     pub end : length e ≤ at → getD words (depth - 1) 0 ≡ valueOf (envOf vals) (parse F (below (length vals)) e)

@@ -1,4 +1,5 @@
--- The token at an offset is an operand, which is pushed, or an operator, which is applied: which of them, by the size that `operandOf` gives.
+-- The token at an offset is an operand, which is pushed, or an operator, which is applied: which of them, by the size that `operandOf`
+-- gives.
 use Prim.Native.Nat.{ℕ, _+_, _<_}
 use native.Mathlib.Omega.{arith}
 use mathlib.Core.Path.{_≡_, refl, ap, _∙_}
@@ -16,7 +17,8 @@ use Rattle.expr.specs.Token.{Token, Const, Symbol, Un, Bin, Ite, symbolC
 use Rattle.expr.specs.ExprLaws.{depthLimit-le}
 use Rattle.expr.specs.Eval.{Env}
 use Rattle.expr.specs.Shown.{popped, popsOf, turned, goes, sizeOf, operandOf, Stepped}
-use Rattle.expr.proofs.Steps.{Constant, Reads, Operator, constant-stands, symbol-stands, operator-stands, constant-steps, symbol-steps}
+use Rattle.expr.proofs.Steps.{Constant, Reads, Operator, constant-stands, symbol-stands, operator-stands, constant-steps}
+use Rattle.expr.proofs.Steps.{symbol-steps}
 
 -- an operator is no operand
 pub operator-none : (F : File) (ρ : Env) (b : ℕ) → 0 < popsOf b → operandOf F ρ (operator b) ≡ operandOf F ρ none
@@ -31,11 +33,13 @@ operator-none F ρ b h = go (operator b) h
     go (some (Bin u)) h = refl
     go (some Ite) h = refl
 
-module _ (F : File) (ρ : Env) (may : ℕ → Bool) (d : ℕ) (s : List ℕ) (i : ℕ) (h : i < length s) (q : goes (turned F may d (readToken F (drop i s))) ≡ true) (r : Operand) (told : r ≡ operandOf F ρ (readToken F (drop i s))) where
+module _ (F : File) (ρ : Env) (may : ℕ → Bool) (d : ℕ) (s : List ℕ) (i : ℕ) (h : i < length s)
+    (q : goes (turned F may d (readToken F (drop i s))) ≡ true) (r : Operand) (told : r ≡ operandOf F ρ (readToken F (drop i s))) where
   stands : Constant F d s i ⊎ (Reads F may d s i ⊎ Operator F d s i)
   stands = go (eqb (getD s i 0) 1) refl (eqb (getD s i 0) (symbolCode F)) refl
     where
-      go : (x : Bool) → eqb (getD s i 0) 1 ≡ x → (y : Bool) → eqb (getD s i 0) (symbolCode F) ≡ y → Constant F d s i ⊎ (Reads F may d s i ⊎ Operator F d s i)
+      go : (x : Bool) → eqb (getD s i 0) 1 ≡ x → (y : Bool) → eqb (getD s i 0) (symbolCode F) ≡ y
+          → Constant F d s i ⊎ (Reads F may d s i ⊎ Operator F d s i)
       go true e y f = inl (constant-stands F may d s i h q (eqb-true _ _ e))
       go false e true f = inr (inl (symbol-stands F may d s i h q (eqb-true _ _ f)))
       go false e false f = inr (inr (operator-stands F may d s i h q (eqb-false _ _ e) (eqb-false _ _ f)))
@@ -60,7 +64,8 @@ module _ (F : File) (ρ : Env) (may : ℕ → Bool) (d : ℕ) (s : List ℕ) (i 
   -- there is room for the word, and with it the token is done
   pub record Pushes : Type 0 where
     pub room : d < 17
-    pub steps : (w : List ℕ) → length w ≡ 17 → (r .size ≡ sizeOf F (readToken F (drop i s))) × Stepped ρ (readToken F (drop i s)) w d (set w d (r .word)) (d + 1)
+    pub steps : (w : List ℕ) → length w ≡ 17 → (r .size ≡ sizeOf F (readToken F (drop i s))) × Stepped ρ (readToken F (drop i s)) w d
+        (set w d (r .word)) (d + 1)
 
   pub pushes : (r .size ≡ 0 → ⊥) → Pushes
   pushes n = go stands

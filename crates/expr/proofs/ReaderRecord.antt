@@ -1,5 +1,5 @@
--- A `Reader` as each walk over one uses it: its machine value, and what owning one gives. A number's facts and a file's are made anew wherever they are asked for, so that only what the bytes own is carried.
--- Assumes nothing.
+-- A `Reader` as each walk over one uses it: its machine value, and what owning one gives. A number's facts and a file's are made anew
+-- wherever they are asked for, so that only what the bytes own is carried. Assumes nothing.
 use mathlib.Core.Path.{_≡_, refl}
 use Prim.Native.Nat.{ℕ, _<_, _^_}
 use mathlib.Core.List.{List, [], _∷_}
@@ -104,18 +104,24 @@ module _ {M : Type 1} (𝓤 : URA M) (H : Heap 𝓤) (A : Atoms 𝓤) (W : Given
     reader-typed d u p = LL.lawful (T.the-type α) (T′.the-laws α) 𝓤 H A W .typed d (u ∷ []) p .0
 
     -- whoever owns a reader owns its bytes beside it
-    pub bytes-beside : (d : Reader) → ent 𝓤 (sem 𝓤 H A (OwnReader α d)) (sep 𝓤 (sem 𝓤 H A (OwnBytes α (d .rec))) (sem 𝓤 H A (OwnReader α d)))
+    pub bytes-beside : (d : Reader) → ent 𝓤 (sem 𝓤 H A (OwnReader α d))
+        (sep 𝓤 (sem 𝓤 H A (OwnBytes α (d .rec))) (sem 𝓤 H A (OwnReader α d)))
     bytes-beside d =
-        qed W (‵ (OwnReader α d) ∷ []) ∵ use1 W (‵ (OwnReader α d) ⊛ ‵ (OwnReader α d)) (LL.copy (T.the-type α) (T′.the-copy α) 𝓤 H A W .twice d (readerVal d ∷ [])) $ split ! $
-        use1 W (given (readerVal d ∷ [] ≡ readerVal d ∷ []) (‵ (all-own (T.the-type α .parts) (T′.the-laws α) (d .rec, (d .at, tt))))) (own-open 𝓤 H A W (T.the-type α) (T′.the-laws α) (d .rec, (d .at, tt)) (readerVal d)) $ learn ! (λ _.
-        use1 W (‵ (ownAt (T.the-type α .parts) (T′.the-laws α) 0 (d .rec)) ⊛ ‵ (rest (T.the-type α .parts) (T′.the-laws α) 0 (d .rec, (d .at, tt)))) (own-out 𝓤 H A W (T.the-type α .parts) (T′.the-laws α) 0 (d .rec, (d .at, tt))) $ split ! $
+        qed W (‵ (OwnReader α d) ∷ []) ∵ use1 W (‵ (OwnReader α d) ⊛ ‵ (OwnReader α d))
+        (LL.copy (T.the-type α) (T′.the-copy α) 𝓤 H A W .twice d (readerVal d ∷ [])) $ split ! $
+        use1 W (given (readerVal d ∷ [] ≡ readerVal d ∷ []) (‵ (all-own (T.the-type α .parts) (T′.the-laws α) (d .rec, (d .at, tt)))))
+        (own-open 𝓤 H A W (T.the-type α) (T′.the-laws α) (d .rec, (d .at, tt)) (readerVal d)) $ learn ! (λ _.
+        use1 W (‵ (ownAt (T.the-type α .parts) (T′.the-laws α) 0 (d .rec)) ⊛ ‵
+        (rest (T.the-type α .parts) (T′.the-laws α) 0 (d .rec, (d .at, tt))))
+        (own-out 𝓤 H A W (T.the-type α .parts) (T′.the-laws α) 0 (d .rec, (d .at, tt))) $ split ! $
         -- [what the bytes own; what the offset owns; what the reader owns]
         move ! (1 ∷ []) $ let-go ! $ frame ! $ done !)
 
     -- whoever owns bytes owns a reader over them, at any offset
     pub reader-over : (s : RefT (List ℕ)) (n : ℕ) → n < 2 ^ 64 → ent 𝓤 (sem 𝓤 H A (OwnBytes α s)) (sem 𝓤 H A (OwnReader α (over s n)))
     reader-over s n fits =
-        qed W (‵ (OwnBytes α s) ∷ []) ∵ nothing ! $ owned ! usize (Is usize) (uint-makes 𝓤 H A W w64) n _ (refl, fits) $ fjoin ! $ move ! (1 ∷ 0 ∷ []) $ fjoin ! $ by ! (own-shut 𝓤 H A W (T.the-type α) (T′.the-laws α) (s, (n, tt)))
+        qed W (‵ (OwnBytes α s) ∷ []) ∵ nothing ! $ owned ! usize (Is usize) (uint-makes 𝓤 H A W w64) n _ (refl, fits) $ fjoin ! $ move !
+        (1 ∷ 0 ∷ []) $ fjoin ! $ by ! (own-shut 𝓤 H A W (T.the-type α) (T′.the-laws α) (s, (n, tt)))
 
   -- in a local of a body MIR erases the lifetime of the reader's type: what a reader owns does not say the lifetime's name
   pub local-typed : (α : NamedLft) (d : Reader) (u : Val) → Is (T.the-row α) d (u ∷ []) → TypedReader erased u

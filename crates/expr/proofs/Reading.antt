@@ -1,4 +1,5 @@
--- The token reader at an offset: what stands there, by the byte there and the number of bytes after it; and what the code's values say of it.
+-- The token reader at an offset: what stands there, by the byte there and the number of bytes after it; and what the code's values say of
+-- it.
 use Prim.Native.Nat.{ℕ, _+_, _-_, _≤_, _<_}
 use native.Mathlib.Omega.{arith}
 use native.Mathlib.Numerals.{add-one}
@@ -16,7 +17,8 @@ use Rattle.expr.specs.declared.token.Read.{Read}
 use Rattle.expr.specs.declared.token.Read.the-variants as R
 use Rattle.expr.specs.Lists.{every, every-below}
 use Rattle.expr.specs.Number.{numberOf}
-use Rattle.expr.specs.Token.{Token, Const, Symbol, Un, Bin, Ite, symbolCode, symbolWidth, unaryCode, binaryCode, code, operand, operator, readToken}
+use Rattle.expr.specs.Token.{Token, Const, Symbol, Un, Bin, Ite, symbolCode, symbolWidth, unaryCode, binaryCode, code, operand}
+use Rattle.expr.specs.Token.{operator, readToken}
 use Rattle.expr.specs.TokenLaws.{IsOperator, operator-is, operator-unary, operator-binary, operator-ite}
 use Rattle.expr.specs.Expr.{pops, readsOnly}
 use Rattle.expr.specs.Shown.{shownToken, popped, popsOf}
@@ -86,9 +88,24 @@ pub shown-operator : (o : Option Token) (b : ℕ) → shownToken o ≡ R.Operato
 shown-operator none b h = absurd (let z : _≡_ {A = ℕ} 0 1 = cc in omega arith)
 shown-operator (some (Const n)) b h = absurd (let z : _≡_ {A = ℕ} 0 1 = cc in omega arith)
 shown-operator (some (Symbol s)) b h = absurd (let z : _≡_ {A = ℕ} 0 1 = cc in omega arith)
-shown-operator (some (Un u)) b h = record { token = Un u; is = refl; by = (let e : unaryCode u ≡ b = cc in subst (λ c. operator c ≡ some (Un u)) e (operator-unary u)) }
-shown-operator (some (Bin u)) b h = record { token = Bin u; is = refl; by = (let e : binaryCode u ≡ b = cc in subst (λ c. operator c ≡ some (Bin u)) e (operator-binary u)) }
-shown-operator (some Ite) b h = record { token = Ite; is = refl; by = (let e : 0x30 ≡ b = cc in subst (λ c. operator c ≡ some Ite) e operator-ite) }
+shown-operator (some (Un u)) b h = record {
+  token = Un u;
+  is = refl;
+  by =
+      (let e : unaryCode u ≡ b = cc in subst (λ c. operator c ≡ some (Un u)) e (operator-unary u));
+}
+shown-operator (some (Bin u)) b h = record {
+  token = Bin u;
+  is = refl;
+  by =
+      (let e : binaryCode u ≡ b = cc in subst (λ c. operator c ≡ some (Bin u)) e (operator-binary u));
+}
+shown-operator (some Ite) b h = record {
+  token = Ite;
+  is = refl;
+  by =
+      (let e : 0x30 ≡ b = cc in subst (λ c. operator c ≡ some Ite) e operator-ite);
+}
 
 pub pops-of : (b : ℕ) (t : Token) → operator b ≡ some t → popsOf b ≡ pops t
 unfolding popsOf
@@ -143,11 +160,14 @@ module _ (F : File) (s : List ℕ) (i : ℕ) (h : i < length s) where
       ap (readToken F) here
       ∙ rw (ne-eqb (getD s i 0) 1 (λ z. symbol-not-constant (sym e ∙ z)), eq-eqb (getD s i 0) (symbolCode F) e)
 
-  operand-there : (k : ℕ) (token : ℕ → Token) → k ≤ length s - i - 1 → operand k token (drop (i + 1) s) ≡ some (token (numberOf k (drop (i + 1) s)))
-  operand-there k token l = ap (λ b. cond b (some (token (numberOf k (drop (i + 1) s)))) none) (le-leb k (length (drop (i + 1) s)) (omega (arith, left)))
+  operand-there : (k : ℕ) (token : ℕ → Token) → k ≤ length s - i - 1
+      → operand k token (drop (i + 1) s) ≡ some (token (numberOf k (drop (i + 1) s)))
+  operand-there k token l =
+      ap (λ b. cond b (some (token (numberOf k (drop (i + 1) s)))) none) (le-leb k (length (drop (i + 1) s)) (omega (arith, left)))
 
   operand-short : (k : ℕ) (token : ℕ → Token) → length s - i - 1 < k → operand k token (drop (i + 1) s) ≡ none
-  operand-short k token l = ap (λ b. cond b (some (token (numberOf k (drop (i + 1) s)))) none) (lt-leb k (length (drop (i + 1) s)) (omega (arith, left)))
+  operand-short k token l =
+      ap (λ b. cond b (some (token (numberOf k (drop (i + 1) s)))) none) (lt-leb k (length (drop (i + 1) s)) (omega (arith, left)))
 
   pub constant-there : getD s i 0 ≡ 1 → 4 ≤ length s - i - 1 → readToken F (drop i s) ≡ some (Const (numberOf 4 (drop (i + 1) s)))
   constant-there e l = constant e ∙ operand-there 4 Const l
@@ -155,7 +175,8 @@ module _ (F : File) (s : List ℕ) (i : ℕ) (h : i < length s) where
   pub constant-short : getD s i 0 ≡ 1 → length s - i - 1 < 4 → readToken F (drop i s) ≡ none
   constant-short e l = constant e ∙ operand-short 4 Const l
 
-  pub symbol-there : getD s i 0 ≡ symbolCode F → symbolWidth F ≤ length s - i - 1 → readToken F (drop i s) ≡ some (Symbol (numberOf (symbolWidth F) (drop (i + 1) s)))
+  pub symbol-there : getD s i 0 ≡ symbolCode F → symbolWidth F ≤ length s - i - 1
+      → readToken F (drop i s) ≡ some (Symbol (numberOf (symbolWidth F) (drop (i + 1) s)))
   symbol-there e l = symbol e ∙ operand-there (symbolWidth F) Symbol l
 
   pub symbol-short : getD s i 0 ≡ symbolCode F → length s - i - 1 < symbolWidth F → readToken F (drop i s) ≡ none

@@ -1,4 +1,5 @@
--- Any loop over the tokens of an expression: from a place on, above some number of words, the rest is an expression's. Other crates' loops use it.
+-- Any loop over the tokens of an expression: from a place on, above some number of words, the rest is an expression's. Other crates' loops
+-- use it.
 use Prim.Native.Nat.{ℕ, _+_, _≤_, _<_}
 use native.Mathlib.Omega.{arith}
 use mathlib.Core.Path.{_≡_, refl, sym, ap, _∙_}

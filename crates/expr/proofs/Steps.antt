@@ -1,5 +1,5 @@
--- One token on the array of words: the stack that an array holds, what an operator makes of it, and what is known of a token that may stand at
--- an offset.
+-- One token on the array of words: the stack that an array holds, what an operator makes of it, and what is known of a token that may
+-- stand at an offset.
 use Prim.Native.Nat.{ℕ, zero, suc, _+_, _-_, _≤_, _<_}
 use native.Mathlib.Omega.{arith}
 use native.Mathlib.Numerals.{add-one}
@@ -22,7 +22,8 @@ use Rattle.expr.specs.Expr.{depthLimit, pops, after, fits}
 use Rattle.expr.specs.ExprLaws.{depthLimit-le, Fits, fits-is}
 use Rattle.expr.specs.Eval.{Env, step, pushUnary, pushBinary, pushIte}
 use Rattle.expr.specs.Shown.{popped, popsOf, turned, goes, stackOf, unaryOf, binaryOf, sizeOf, nowhere, Stepped}
-use Rattle.expr.proofs.Reading.{pops-by-range, pops-of, operator-pops, constant-there, constant-short, symbol-there, symbol-short, operator-there}
+use Rattle.expr.proofs.Reading.{pops-by-range, pops-of, operator-pops, constant-there, constant-short, symbol-there, symbol-short}
+use Rattle.expr.proofs.Reading.{operator-there}
 
 -- ---- the stack that an array holds
 
@@ -67,14 +68,17 @@ module _ (b : ℕ) (h : b < 256) (s : 0 < popsOf b) where
       go false e false f q = absurd (let z : popsOf b ≡ 0 = q ∙ rw (lt-ltb b 0x20 l) in omega arith)
 
   pub binary-code : 0x20 ≤ b → b < 0x30 → (b < 0x2E) × (popsOf b ≡ 2)
-  binary-code l m = go (ltb b 0x2E) refl (pops-by-range b h ∙ rw (le-ltb b 0x10 (omega arith), le-ltb b 0x13 (omega arith), le-ltb b 0x20 l))
+  binary-code l m =
+      go (ltb b 0x2E) refl (pops-by-range b h ∙ rw (le-ltb b 0x10 (omega arith), le-ltb b 0x13 (omega arith), le-ltb b 0x20 l))
     where
       go : (x : Bool) → ltb b 0x2E ≡ x → popsOf b ≡ cond x 2 (cond (eqb b 0x30) 3 0) → (b < 0x2E) × (popsOf b ≡ 2)
       go true e q = (ltb-true b 0x2E e, q)
       go false e q = absurd (let z : popsOf b ≡ 0 = q ∙ rw (ne-eqb b 0x30 (λ e. omega arith)) in omega arith)
 
   pub ite-code : 0x30 ≤ b → (b ≡ 0x30) × (popsOf b ≡ 3)
-  ite-code l = go (eqb b 0x30) refl (pops-by-range b h ∙ rw (le-ltb b 0x10 (omega arith), le-ltb b 0x13 (omega arith), le-ltb b 0x20 (omega arith), le-ltb b 0x2E (omega arith)))
+  ite-code l =
+      go (eqb b 0x30) refl (pops-by-range b h
+      ∙ rw (le-ltb b 0x10 (omega arith), le-ltb b 0x13 (omega arith), le-ltb b 0x20 (omega arith), le-ltb b 0x2E (omega arith)))
     where
       go : (x : Bool) → eqb b 0x30 ≡ x → popsOf b ≡ cond x 3 0 → (b ≡ 0x30) × (popsOf b ≡ 3)
       go true e q = (eqb-true b 0x30 e, q)
@@ -125,15 +129,18 @@ module _ (w w′ : List ℕ) (d r x : ℕ) (l : length w ≡ 17) (k : d ≤ 17) 
       let o = is-unary b (pops-by-range b (omega arith) ∙ rw (le-ltb b 0x10 m, lt-ltb b 0x13 n)) in
       subst (λ o. Stepped nowhere o w d w′ r) (sym (o .1))
       (puts nowhere (Un (o .0)) (omega arith) h e p
-      (ap {B = List ℕ} (λ v. v ∷ stackOf w (d - 1)) (q ∙ ap (λ o. unaryOf o (getD w (d - 1) 0)) (o .1)) ∙ sym (ap (pushUnary (o .0)) (stack-one w d h))))
+      (ap {B = List ℕ} (λ v. v ∷ stackOf w (d - 1)) (q ∙ ap (λ o. unaryOf o (getD w (d - 1) 0)) (o .1))
+      ∙ sym (ap (pushUnary (o .0)) (stack-one w d h))))
 
   pub binary-steps : (b : ℕ) → 0x20 ≤ b → b < 0x2E → 2 ≤ d → r ≡ d - 2 + 1 → w′ ≡ set w (d - 2) x
       → x ≡ binaryOf (operator b) (getD w (d - 2) 0) (getD w (d - 1) 0) → Stepped nowhere (operator b) w d w′ r
   binary-steps b m n h e p q =
-      let o = is-binary b (pops-by-range b (omega arith) ∙ rw (le-ltb b 0x10 (omega arith), le-ltb b 0x13 (omega arith), le-ltb b 0x20 m, lt-ltb b 0x2E n)) in
+      let o = is-binary b (pops-by-range b (omega arith)
+      ∙ rw (le-ltb b 0x10 (omega arith), le-ltb b 0x13 (omega arith), le-ltb b 0x20 m, lt-ltb b 0x2E n)) in
       subst (λ o. Stepped nowhere o w d w′ r) (sym (o .1))
       (puts nowhere (Bin (o .0)) (omega arith) h e p
-      (ap {B = List ℕ} (λ v. v ∷ stackOf w (d - 2)) (q ∙ ap (λ o. binaryOf o (getD w (d - 2) 0) (getD w (d - 1) 0)) (o .1)) ∙ sym (ap (pushBinary (o .0)) (stack-two w d h))))
+      (ap {B = List ℕ} (λ v. v ∷ stackOf w (d - 2)) (q ∙ ap (λ o. binaryOf o (getD w (d - 2) 0) (getD w (d - 1) 0)) (o .1))
+      ∙ sym (ap (pushBinary (o .0)) (stack-two w d h))))
 
   pub ite-steps : 3 ≤ d → r ≡ d - 3 + 1 → w′ ≡ set w (d - 3) x
       → x ≡ choice (getD w (d - 3) 0) (getD w (d - 2) 0) (getD w (d - 1) 0) → Stepped nowhere (operator 0x30) w d w′ r
@@ -143,7 +150,8 @@ module _ (w w′ : List ℕ) (d r x : ℕ) (l : length w ≡ 17) (k : d ≤ 17) 
       (ap {B = List ℕ} (λ v. v ∷ stackOf w (d - 3)) q ∙ sym (ap pushIte (stack-three w d h))))
 
 -- an operator reads no symbol
-pub any-env : (ρ : Env) (b : ℕ) (w w′ : List ℕ) (d r : ℕ) → 0 < popsOf b → Stepped nowhere (operator b) w d w′ r → Stepped ρ (operator b) w d w′ r
+pub any-env : (ρ : Env) (b : ℕ) (w w′ : List ℕ) (d r : ℕ) → 0 < popsOf b → Stepped nowhere (operator b) w d w′ r
+    → Stepped ρ (operator b) w d w′ r
 unfolding popsOf
 any-env ρ b w w′ d r h s = go (operator b) h s
   where
@@ -161,7 +169,8 @@ module _ (F : File) (may : ℕ → Bool) (d : ℕ) (o : Option Token) where
   standing : (q : goes (turned F may d o) ≡ true) (t : Token) → o ≡ some t → Fits may (depthLimit F) d t
   standing q t e = go (fits may (depthLimit F) d t) refl (subst (λ o. goes (turned F may d o) ≡ true) e q)
     where
-      go : (x : Bool) → fits may (depthLimit F) d t ≡ x → goes (cond x (Next (after d t) (suc (operandCount F t))) Stop) ≡ true → Fits may (depthLimit F) d t
+      go : (x : Bool) → fits may (depthLimit F) d t ≡ x → goes (cond x (Next (after d t) (suc (operandCount F t))) Stop) ≡ true
+          → Fits may (depthLimit F) d t
       go true f q = fits-is may (depthLimit F) d t f
       go false f q = absurd (let z : _≡_ {A = ℕ} 0 1 = cc in omega arith)
 
@@ -188,7 +197,8 @@ pub record Operator (F : File) (d : ℕ) (s : List ℕ) (i : ℕ) : Type 0 where
   pub pops-some : 0 < popsOf (getD s i 0)
   pub enough : popsOf (getD s i 0) ≤ d
 
-module _ (F : File) (may : ℕ → Bool) (d : ℕ) (s : List ℕ) (i : ℕ) (h : i < length s) (q : goes (turned F may d (readToken F (drop i s))) ≡ true) where
+module _ (F : File) (may : ℕ → Bool) (d : ℕ) (s : List ℕ) (i : ℕ) (h : i < length s)
+    (q : goes (turned F may d (readToken F (drop i s))) ≡ true) where
   pub constant-stands : getD s i 0 ≡ 1 → Constant F d s i
   constant-stands e = go (ltb (length s - i - 1) 4) refl
     where
@@ -204,7 +214,8 @@ module _ (F : File) (may : ℕ → Bool) (d : ℕ) (s : List ℕ) (i : ℕ) (h :
   symbol-stands e = go (ltb (length s - i - 1) (symbolWidth F)) refl
     where
       go : (x : Bool) → ltb (length s - i - 1) (symbolWidth F) ≡ x → Reads F may d s i
-      go true l = absurd (some-token F may d (readToken F (drop i s)) q (symbol-short F s i h e (ltb-true (length s - i - 1) (symbolWidth F) l)))
+      go true l =
+          absurd (some-token F may d (readToken F (drop i s)) q (symbol-short F s i h e (ltb-true (length s - i - 1) (symbolWidth F) l)))
       go false l =
           let t = ltb-false (length s - i - 1) (symbolWidth F) l in
           let r = symbol-there F s i h e t in
@@ -238,22 +249,32 @@ module _ (F : File) (ρ : Env) (d : ℕ) (s : List ℕ) (i : ℕ) (w w′ : List
   abbrev Done : (m : ℕ) → Option Token → Type 0
   Done m o = (m ≡ sizeOf F o) × Stepped ρ o w d w′ r
 
-  leaf : (t : Token) (x : ℕ) → pops t ≡ 0 → d < depthLimit F → r ≡ d + 1 → w′ ≡ set w d x → x ∷ stackOf w d ≡ step ρ t (stackOf w d) → Stepped ρ (some t) w d w′ r
+  leaf : (t : Token) (x : ℕ) → pops t ≡ 0 → d < depthLimit F → r ≡ d + 1 → w′ ≡ set w d x → x ∷ stackOf w d ≡ step ρ t (stackOf w d)
+      → Stepped ρ (some t) w d w′ r
   leaf t x z h e p q = record {
     deep = omega arith;
     stack = ap₂ stackOf p e ∙ stack-push w d x (omega (arith, depthLimit-le F)) ∙ q;
     long = ap length p ∙ length-set w d x;
   }
 
-  pub constant-steps : (x : ℕ) → Constant F d s i → r ≡ d + 1 → w′ ≡ set w d x → x ≡ numberOf 4 (drop (i + 1) s) → Done 5 (readToken F (drop i s))
+  pub constant-steps : (x : ℕ) → Constant F d s i → r ≡ d + 1 → w′ ≡ set w d x → x ≡ numberOf 4 (drop (i + 1) s)
+      → Done 5 (readToken F (drop i s))
   constant-steps x c e p q =
-      subst (Done 5) (sym (c .is)) (refl, leaf (Const (numberOf 4 (drop (i + 1) s))) x refl (c .room) e p (ap {B = List ℕ} (λ v. v ∷ stackOf w d) q))
+      subst (Done 5) (sym (c .is)) (
+        refl,
+        leaf (Const (numberOf 4 (drop (i + 1) s))) x refl (c .room) e p
+            (ap {B = List ℕ} (λ v. v ∷ stackOf w d) q),
+      )
 
-  pub symbol-steps : (may : ℕ → Bool) (x y : ℕ) → Reads F may d s i → r ≡ d + 1 → w′ ≡ set w d x → x ≡ ρ y → y ≡ numberOf (symbolWidth F) (drop (i + 1) s)
+  pub symbol-steps : (may : ℕ → Bool) (x y : ℕ) → Reads F may d s i → r ≡ d + 1 → w′ ≡ set w d x → x ≡ ρ y
+      → y ≡ numberOf (symbolWidth F) (drop (i + 1) s)
       → Done (symbolWidth F + 1) (readToken F (drop i s))
   symbol-steps may x y c e p q n =
-      subst (Done (symbolWidth F + 1)) (sym (c .is))
-      (add-one (symbolWidth F), leaf (Symbol (numberOf (symbolWidth F) (drop (i + 1) s))) x refl (c .room) e p (ap {B = List ℕ} (λ v. v ∷ stackOf w d) (q ∙ ap ρ n)))
+      subst (Done (symbolWidth F + 1)) (sym (c .is)) (
+        add-one (symbolWidth F),
+        leaf (Symbol (numberOf (symbolWidth F) (drop (i + 1) s))) x refl (c .room) e p
+            (ap {B = List ℕ} (λ v. v ∷ stackOf w d) (q ∙ ap ρ n)),
+      )
 
   pub operator-steps : Operator F d s i → Stepped nowhere (operator (getD s i 0)) w d w′ r → Done 1 (readToken F (drop i s))
   operator-steps c t = (c .one-byte, subst (λ o. Stepped ρ o w d w′ r) (sym (c .is)) (any-env ρ (getD s i 0) w w′ d r (c .pops-some) t))

@@ -24,7 +24,8 @@ use Rattle.expr.proofs.Reading.{operator-pops, operator-reads, shown-no
 -- ---- what a token leaves
 
 module _ (F : File) (may : ℕ → Bool) (d : ℕ) where
-  next : (t : Token) (d′ m : ℕ) → Fits may (depthLimit F) d t → after d t ≡ d′ → suc (operandCount F t) ≡ m → turned F may d (some t) ≡ Next d′ m
+  next : (t : Token) (d′ m : ℕ) → Fits may (depthLimit F) d t → after d t ≡ d′ → suc (operandCount F t) ≡ m
+      → turned F may d (some t) ≡ Next d′ m
   next t d′ m f p q =
       ap (λ x. cond x (Next (after d t) (suc (operandCount F t))) Stop) (is-fits may (depthLimit F) d t f) ∙ ap₂ {C = After} Next p q
 
@@ -48,10 +49,12 @@ module _ (F : File) (may : ℕ → Bool) (d : ℕ) where
     pub constant-full : (n : ℕ) → shownToken o ≡ R.Constant n → depthLimit F ≤ d → turned F may d o ≡ Stop
     constant-full n e h = ap (turned F may d) (shown-constant o n e) ∙ stops (Const n) (λ f. omega (arith, f .room))
 
-    pub symbol-next : (s : ℕ) → shownToken o ≡ R.Symbol s → d < depthLimit F → may s ≡ true → turned F may d o ≡ Next (d + 1) (symbolWidth F + 1)
+    pub symbol-next : (s : ℕ) → shownToken o ≡ R.Symbol s → d < depthLimit F → may s ≡ true
+        → turned F may d o ≡ Next (d + 1) (symbolWidth F + 1)
     symbol-next s e h k =
         ap (turned F may d) (shown-symbol o s e)
-        ∙ next (Symbol s) (d + 1) (symbolWidth F + 1) (record { enough = omega arith; room = omega arith; known = k }) (omega arith) (sym (add-one (symbolWidth F)))
+        ∙ next (Symbol s) (d + 1) (symbolWidth F + 1) (record { enough = omega arith; room = omega arith; known = k }) (omega arith)
+        (sym (add-one (symbolWidth F)))
 
     pub symbol-full : (s : ℕ) → shownToken o ≡ R.Symbol s → depthLimit F ≤ d → turned F may d o ≡ Stop
     symbol-full s e h = ap (turned F may d) (shown-symbol o s e) ∙ stops (Symbol s) (λ f. omega (arith, f .room))
@@ -61,7 +64,8 @@ module _ (F : File) (may : ℕ → Bool) (d : ℕ) where
         ap (turned F may d) (shown-symbol o s e)
         ∙ stops (Symbol s) (λ f. let k : may s ≡ true = f .known in let z : _≡_ {A = ℕ} 0 1 = cc in omega arith)
 
-    pub operator-next : (b : ℕ) → shownToken o ≡ R.Operator b → popsOf b ≤ d → d ≤ depthLimit F → turned F may d o ≡ Next (d - popsOf b + 1) 1
+    pub operator-next : (b : ℕ) → shownToken o ≡ R.Operator b → popsOf b ≤ d → d ≤ depthLimit F
+        → turned F may d o ≡ Next (d - popsOf b + 1) 1
     operator-next b e h k =
         let w = shown-operator o b e in
         let t = w .token in
@@ -69,7 +73,8 @@ module _ (F : File) (may : ℕ → Bool) (d : ℕ) where
         let q = operator-is b t (w .by) .1 in
         let z : 0 < pops t = operator-pops t q in
         ap (turned F may d) (w .is)
-        ∙ next t (d - popsOf b + 1) 1 (record { enough = omega arith; room = omega arith; known = operator-reads may t q }) (omega arith) (ap suc (operator-count F t q))
+        ∙ next t (d - popsOf b + 1) 1 (record { enough = omega arith; room = omega arith; known = operator-reads may t q }) (omega arith)
+        (ap suc (operator-count F t q))
 
     pub operator-short : (b : ℕ) → shownToken o ≡ R.Operator b → d < popsOf b → turned F may d o ≡ Stop
     operator-short b e h =
@@ -109,7 +114,8 @@ module _ (F : File) (may : ℕ → Bool) (d : ℕ) (s : List ℕ) (i : ℕ) (h :
       go none r q = absurd (let z : _≡_ {A = ℕ} 0 1 = cc in omega arith)
       go (some t) r q = fit (fits may (depthLimit F) d t) refl q
         where
-          fit : (x : Bool) → fits may (depthLimit F) d t ≡ x → cond x (Next (after d t) (suc (operandCount F t))) Stop ≡ Next d′ m → Went F may d s i d′ m
+          fit : (x : Bool) → fits may (depthLimit F) d t ≡ x → cond x (Next (after d t) (suc (operandCount F t))) Stop ≡ Next d′ m
+              → Went F may d s i d′ m
           fit false f q = absurd (let z : _≡_ {A = ℕ} 0 1 = cc in omega arith)
           fit true f q =
               let u : d′ ≡ after d t = cc in
@@ -142,9 +148,12 @@ module _ (F : File) (may : ℕ → Bool) (d : ℕ) (s : List ℕ) (i : ℕ) (h :
           fit false q = refl
 
   pub checked-stop : turned F may d (readToken F (drop i s)) ≡ Stop → checked (length s) (parseFrom F may d 0 (drop i s)) ≡ Broken i
-  checked-stop q = ap (checked (length s)) (breaks-here q) ∙ ap {B = Checked} Broken (let o : length s - length (drop i s) ≡ i = omega (arith, length-drop i s) in o)
+  checked-stop q =
+      ap (checked (length s)) (breaks-here q)
+      ∙ ap {B = Checked} Broken (let o : length s - length (drop i s) ≡ i = omega (arith, length-drop i s) in o)
 
-  pub checked-on : (d′ m : ℕ) → Went F may d s i d′ m → checked (length s) (parseFrom F may d′ 0 (drop (i + m) s)) ≡ checked (length s) (parseFrom F may d 0 (drop i s))
+  pub checked-on : (d′ m : ℕ) → Went F may d s i d′ m → checked (length s) (parseFrom F may d′ 0 (drop (i + m) s)) ≡ checked (length s)
+      (parseFrom F may d 0 (drop i s))
   checked-on d′ m w = sym (ap (checked (length s)) (w .same) ∙ checked-also (length s) (w .token) (parseFrom F may d′ 0 (drop (i + m) s)))
 
   -- where the rest is an expression, its next token may stand there

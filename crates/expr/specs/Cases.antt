@@ -5,7 +5,8 @@ use mathlib.Core.Option.{none, some}
 use mathlib.Core.List.{List, [], _∷_, map}
 use lib.ListN.{length, replicate}
 use Rattle.expr.specs.declared.File.the-variants.{Table, Trace}
-use Rattle.expr.specs.Word.{Not, Neg, Zero, Add, Sub, Mul, Udiv, Urem, And, Or, Xor, Shl, Lshr, Equal, Ult, Ule, Slt, remainderByZero, signed, unary, binary, choice}
+use Rattle.expr.specs.Word.{Not, Neg, Zero, Add, Sub, Mul, Udiv, Urem, And, Or, Xor, Shl, Lshr, Equal, Ult, Ule, Slt}
+use Rattle.expr.specs.Word.{remainderByZero, signed, unary, binary, choice}
 use Rattle.expr.specs.Token.{Const, Symbol, Un, Bin, Ite, operator, readToken}
 use Rattle.expr.specs.Expr.{below, fits, Parsed, Whole, Breaks, parseFrom, parse}
 use Rattle.expr.specs.Eval.{envOf, value}
@@ -31,7 +32,8 @@ unfolding binary signed
 m10 = (refl, refl)
 
 -- the operators that no marked case has, on words that tell each from its like; an amount of 32 and more shifts everything out
-unaries : (unary 32 Not 1 ≡ 4294967294) × (unary 32 Neg 1 ≡ 4294967295) × (unary 32 Neg 0 ≡ 0) × (unary 32 Zero 0 ≡ 1) × (unary 32 Zero 2 ≡ 0)
+unaries : (unary 32 Not 1 ≡ 4294967294) × (unary 32 Neg 1 ≡ 4294967295) × (unary 32 Neg 0 ≡ 0) × (unary 32 Zero 0 ≡ 1)
+    × (unary 32 Zero 2 ≡ 0)
 unfolding unary
 unaries = (refl, refl, refl, refl, refl)
 
@@ -43,11 +45,13 @@ bits : (binary 32 And 12 10 ≡ 8) × (binary 32 Or 12 10 ≡ 14) × (binary 32 
 unfolding binary
 bits = (refl, refl, refl)
 
-shifts : (binary 32 Shl 1 4294967295 ≡ 0) × (binary 32 Lshr 2147483648 31 ≡ 1) × (binary 32 Lshr 4294967295 32 ≡ 0) × (binary 32 Lshr 6 1 ≡ 3)
+shifts : (binary 32 Shl 1 4294967295 ≡ 0) × (binary 32 Lshr 2147483648 31 ≡ 1) × (binary 32 Lshr 4294967295 32 ≡ 0)
+    × (binary 32 Lshr 6 1 ≡ 3)
 unfolding binary
 shifts = (refl, refl, refl, refl)
 
-tests : (binary 32 Equal 7 7 ≡ 1) × (binary 32 Equal 7 8 ≡ 0) × (binary 32 Ult 7 8 ≡ 1) × (binary 32 Ult 7 7 ≡ 0) × (binary 32 Ule 7 7 ≡ 1) × (binary 32 Ule 8 7 ≡ 0)
+tests : (binary 32 Equal 7 7 ≡ 1) × (binary 32 Equal 7 8 ≡ 0) × (binary 32 Ult 7 8 ≡ 1) × (binary 32 Ult 7 7 ≡ 0) × (binary 32 Ule 7 7 ≡ 1)
+    × (binary 32 Ule 8 7 ≡ 0)
     × (binary 32 Slt 0 2147483648 ≡ 0) × (binary 32 Slt 7 7 ≡ 0) × (binary 32 Slt 4294967295 0 ≡ 1)
 unfolding binary signed
 tests = (refl, refl, refl, refl, refl, refl, refl, refl, refl)
@@ -142,25 +146,31 @@ wide-ite : (choice 0x00010000 0x12345678 0x9ABCDEF0 ≡ 0x12345678) × (choice 0
 wide-ite = (refl, refl, refl)
 
 -- document 01's list of tokens, code after code, and the codes beside them
-codes : map operator (0x10 ∷ 0x11 ∷ 0x12 ∷ 0x20 ∷ 0x21 ∷ 0x22 ∷ 0x23 ∷ 0x24 ∷ 0x25 ∷ 0x26 ∷ 0x27 ∷ 0x28 ∷ 0x29 ∷ 0x2A ∷ 0x2B ∷ 0x2D ∷ 0x2C ∷ 0x30 ∷ [])
-    ≡ map some (Un Not ∷ Un Neg ∷ Un Zero ∷ Bin Add ∷ Bin Sub ∷ Bin Mul ∷ Bin Udiv ∷ Bin Urem ∷ Bin And ∷ Bin Or ∷ Bin Xor ∷ Bin Shl ∷ Bin Lshr ∷ Bin Equal ∷ Bin Ult
+codes : map operator (0x10 ∷ 0x11 ∷ 0x12 ∷ 0x20 ∷ 0x21 ∷ 0x22 ∷ 0x23 ∷ 0x24 ∷ 0x25 ∷ 0x26 ∷ 0x27 ∷ 0x28 ∷ 0x29 ∷ 0x2A ∷ 0x2B ∷ 0x2D ∷ 0x2C
+    ∷ 0x30 ∷ [])
+    ≡ map some (Un Not ∷ Un Neg ∷ Un Zero ∷ Bin Add ∷ Bin Sub ∷ Bin Mul ∷ Bin Udiv ∷ Bin Urem ∷ Bin And ∷ Bin Or ∷ Bin Xor ∷ Bin Shl
+    ∷ Bin Lshr ∷ Bin Equal ∷ Bin Ult
     ∷ Bin Ule ∷ Bin Slt ∷ Ite ∷ [])
 unfolding operator
 codes = refl
 
-no-codes : map operator (0x00 ∷ 0x01 ∷ 0x02 ∷ 0x03 ∷ 0x0F ∷ 0x13 ∷ 0x1F ∷ 0x2E ∷ 0x2F ∷ 0x31 ∷ 0xFF ∷ []) ≡ none ∷ none ∷ none ∷ none ∷ none ∷ none ∷ none ∷ none ∷ none ∷ none ∷ none ∷ []
+no-codes : map operator (0x00 ∷ 0x01 ∷ 0x02 ∷ 0x03 ∷ 0x0F ∷ 0x13 ∷ 0x1F ∷ 0x2E ∷ 0x2F ∷ 0x31 ∷ 0xFF ∷ []) ≡ none ∷ none ∷ none ∷ none
+    ∷ none ∷ none ∷ none ∷ none ∷ none ∷ none ∷ none ∷ []
 unfolding operator
 no-codes = refl
 
 -- constants have four bytes, a table's symbols one, a trace's two, the highest first; neither file has the other's symbols
-operands : (readToken Table (0x01 ∷ 0x01 ∷ 0x02 ∷ 0x03 ∷ 0x04 ∷ []) ≡ some (Const 16909060)) × (readToken Table (0x02 ∷ 0x05 ∷ 0x06 ∷ []) ≡ some (Symbol 5))
-    × (readToken Trace (0x03 ∷ 0x05 ∷ 0x06 ∷ []) ≡ some (Symbol 1286)) × (readToken Table (0x03 ∷ 0x05 ∷ 0x06 ∷ []) ≡ none) × (readToken Trace (0x02 ∷ 0x05 ∷ 0x06 ∷ []) ≡ none)
+operands : (readToken Table (0x01 ∷ 0x01 ∷ 0x02 ∷ 0x03 ∷ 0x04 ∷ []) ≡ some (Const 16909060))
+    × (readToken Table (0x02 ∷ 0x05 ∷ 0x06 ∷ []) ≡ some (Symbol 5))
+    × (readToken Trace (0x03 ∷ 0x05 ∷ 0x06 ∷ []) ≡ some (Symbol 1286)) × (readToken Table (0x03 ∷ 0x05 ∷ 0x06 ∷ []) ≡ none)
+    × (readToken Trace (0x02 ∷ 0x05 ∷ 0x06 ∷ []) ≡ none)
     × (readToken Trace (0x03 ∷ 0x05 ∷ []) ≡ none)
 unfolding readToken operator
 operands = (refl, refl, refl, refl, refl, refl)
 
 -- c, a, b: under c = s0, a = s1, b = s2
-arms : (value (envOf (2 ∷ 5 ∷ 6 ∷ [])) (Symbol 0 ∷ Symbol 1 ∷ Symbol 2 ∷ Ite ∷ []) ≡ 5) × (value (envOf (0 ∷ 5 ∷ 6 ∷ [])) (Symbol 0 ∷ Symbol 1 ∷ Symbol 2 ∷ Ite ∷ []) ≡ 6)
+arms : (value (envOf (2 ∷ 5 ∷ 6 ∷ [])) (Symbol 0 ∷ Symbol 1 ∷ Symbol 2 ∷ Ite ∷ []) ≡ 5)
+    × (value (envOf (0 ∷ 5 ∷ 6 ∷ [])) (Symbol 0 ∷ Symbol 1 ∷ Symbol 2 ∷ Ite ∷ []) ≡ 6)
     × (value (envOf (7 ∷ 2 ∷ [])) (Symbol 0 ∷ Symbol 1 ∷ Bin Udiv ∷ []) ≡ 3)
 unfolding value binary
 arms = (refl, refl, refl)
@@ -198,7 +208,8 @@ unfolding parseFrom readToken operator fits
 short = refl
 
 -- an empty stack is popped: by a sum of one word, by an ite of two
-pops-empty : (parse Table (below 1) (0x12 ∷ []) ≡ Breaks (0x12 ∷ [])) × (parse Table (below 1) (0x02 ∷ 0x00 ∷ 0x20 ∷ []) ≡ Breaks (0x20 ∷ []))
+pops-empty : (parse Table (below 1) (0x12 ∷ []) ≡ Breaks (0x12 ∷ []))
+    × (parse Table (below 1) (0x02 ∷ 0x00 ∷ 0x20 ∷ []) ≡ Breaks (0x20 ∷ []))
     × (parse Table (below 1) (0x02 ∷ 0x00 ∷ 0x02 ∷ 0x00 ∷ 0x30 ∷ []) ≡ Breaks (0x30 ∷ []))
 unfolding parseFrom readToken operator fits
 pops-empty = (refl, refl, refl)

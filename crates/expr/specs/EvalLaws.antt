@@ -89,7 +89,8 @@ token-reads may Ite x k q = cc
 pub reads-known : (may : ℕ → Bool) (limit d z : ℕ) (e : List Token) (x : ℕ) → Ok may limit d z e → reads x e ≡ true → may x ≡ true
 reads-known may limit d z [] x o q = cc
 reads-known may limit d z (t ∷ e) x o q =
-    or-cases (readsToken x t) (reads x e) (token-reads may t x (fits-is may limit d t (o .0) .known)) (reads-known may limit (after d t) z e x (o .1)) q
+    or-cases (readsToken x t) (reads x e) (token-reads may t x (fits-is may limit d t (o .0) .known))
+    (reads-known may limit (after d t) z e x (o .1)) q
 
 -- ---- what an expression pushes
 
@@ -127,7 +128,8 @@ module _ (may : ℕ → Bool) (limit : ℕ) (ρ : Env) where
   deeper : (d : ℕ) (t : Token) (st : List ℕ) → length st ≡ d → fits may limit d t ≡ true → length (step ρ t st) ≡ after d t
   deeper d t st q f = step-length ρ t st (enough d t st q f) ∙ ap (λ n. after n t) q
 
-  eval-frame : (d z : ℕ) (e : List Token) (st base : List ℕ) → length st ≡ d → Ok may limit d z e → eval ρ e (st ++ base) ≡ eval ρ e st ++ base
+  eval-frame : (d z : ℕ) (e : List Token) (st base : List ℕ) → length st ≡ d → Ok may limit d z e
+      → eval ρ e (st ++ base) ≡ eval ρ e st ++ base
   eval-frame d z [] st base q o = refl
   eval-frame d z (t ∷ e) st base q o =
       ap (eval ρ e) (step-frame ρ t st base (enough d t st q (o .0)))
@@ -157,7 +159,8 @@ push-rename may limit σ ρ f e base o h =
 
 -- ---- words stay words
 
-step-words : (F : File) (ρ : Env) (t : Token) (st : List ℕ) → Holds F t → ((x : ℕ) → readsToken x t ≡ true → Word (ρ x)) → All Word st → All Word (step ρ t st)
+step-words : (F : File) (ρ : Env) (t : Token) (st : List ℕ) → Holds F t → ((x : ℕ) → readsToken x t ≡ true → Word (ρ x)) → All Word st
+    → All Word (step ρ t st)
 step-words F ρ (Const n) st c h a = (c, a)
 step-words F ρ (Symbol s) st c h a = (h s (eq-eqb s s refl), a)
 step-words F ρ (Un o) [] c h a = a
@@ -170,10 +173,12 @@ step-words F ρ Ite (z ∷ []) c h a = a .1
 step-words F ρ Ite (z ∷ y ∷ []) c h a = a .1 .1
 step-words F ρ Ite (z ∷ y ∷ x ∷ st) c h a = (choice-lt 32 (omega arith) x y z (a .1 .0) (a .0), a .1 .1 .1)
 
-pub eval-words : (F : File) (ρ : Env) (e : List Token) (st : List ℕ) → All (Holds F) e → ((x : ℕ) → reads x e ≡ true → Word (ρ x)) → All Word st → All Word (eval ρ e st)
+pub eval-words : (F : File) (ρ : Env) (e : List Token) (st : List ℕ) → All (Holds F) e → ((x : ℕ) → reads x e ≡ true → Word (ρ x))
+    → All Word st → All Word (eval ρ e st)
 eval-words F ρ [] st c h a = a
 eval-words F ρ (t ∷ e) st c h a =
-    eval-words F ρ e (step ρ t st) (c .1) (λ x q. h x (or-right (readsToken x t) _ q)) (step-words F ρ t st (c .0) (λ x q. h x (or-left _ (reads x e) q)) a)
+    eval-words F ρ e (step ρ t st) (c .1) (λ x q. h x (or-right (readsToken x t) _ q))
+    (step-words F ρ t st (c .0) (λ x q. h x (or-left _ (reads x e) q)) a)
 
 pub value-word : (F : File) (ρ : Env) (e : List Token) → All (Holds F) e → ((x : ℕ) → reads x e ≡ true → Word (ρ x)) → Word (value ρ e)
 unfolding value

@@ -16,7 +16,8 @@ use Rattle.expr.specs.Lists.{All, and-both, both-and, or-false}
 use Rattle.expr.specs.Number.{Byte}
 use Rattle.expr.specs.Token.{Token, Const, Symbol, Un, Bin, Ite, operands, operandCount, exprBytes, readToken}
 use Rattle.expr.specs.TokenLaws.{Holds, operands-length, token-written, Stands, token-stands}
-use Rattle.expr.specs.Expr.{depthLimit, below, readable, pops, after, readsOnly, fits, Parsed, Whole, Breaks, also, onToken, parseFrom, parse}
+use Rattle.expr.specs.Expr.{depthLimit, below, readable, pops, after, readsOnly, fits, Parsed, Whole, Breaks, also, onToken}
+use Rattle.expr.specs.Expr.{parseFrom, parse}
 use Rattle.expr.specs.Eval.{renameToken, rename}
 
 -- with no symbol assigned, only inputs may be read
@@ -48,7 +49,8 @@ module _ (may : ℕ → Bool) (limit d : ℕ) (t : Token) where
       both-and (leb (pops t) d) _ (le-leb (pops t) d (f .enough))
       (both-and (leb (after d t) limit) _ (le-leb (after d t) limit (f .room)) (f .known))
 
-reads-more : (may might : ℕ → Bool) → ((s : ℕ) → may s ≡ true → might s ≡ true) → (t : Token) → readsOnly may t ≡ true → readsOnly might t ≡ true
+reads-more : (may might : ℕ → Bool) → ((s : ℕ) → may s ≡ true → might s ≡ true) → (t : Token) → readsOnly may t ≡ true
+    → readsOnly might t ≡ true
 reads-more may might h (Const n) k = k
 reads-more may might h (Symbol s) k = h s k
 reads-more may might h (Un o) k = k
@@ -56,7 +58,8 @@ reads-more may might h (Bin o) k = k
 reads-more may might h Ite k = k
 
 -- where more may be read
-fits-more : (may might : ℕ → Bool) (limit d : ℕ) → ((s : ℕ) → may s ≡ true → might s ≡ true) → (t : Token) → fits may limit d t ≡ true → fits might limit d t ≡ true
+fits-more : (may might : ℕ → Bool) (limit d : ℕ) → ((s : ℕ) → may s ≡ true → might s ≡ true) → (t : Token) → fits may limit d t ≡ true
+    → fits might limit d t ≡ true
 fits-more may might limit d h t f =
     let a = fits-is may limit d t f in
     is-fits might limit d t (record { enough = a .enough; room = a .room; known = reads-more may might h t (a .known) })
@@ -78,7 +81,8 @@ pops-rename f (Un o) = refl
 pops-rename f (Bin o) = refl
 pops-rename f Ite = refl
 
-reads-rename : (may might : ℕ → Bool) (f : ℕ → ℕ) → ((s : ℕ) → may s ≡ true → might (f s) ≡ true) → (t : Token) → readsOnly may t ≡ true → readsOnly might (renameToken f t) ≡ true
+reads-rename : (may might : ℕ → Bool) (f : ℕ → ℕ) → ((s : ℕ) → may s ≡ true → might (f s) ≡ true) → (t : Token) → readsOnly may t ≡ true
+    → readsOnly might (renameToken f t) ≡ true
 reads-rename may might f h (Const n) k = k
 reads-rename may might f h (Symbol s) k = h s k
 reads-rename may might f h (Un o) k = k
@@ -99,7 +103,8 @@ ok-rename may might f k limit d z (t ∷ e) h o =
         room = omega arith;
         known = reads-rename may might f h t (a .known);
       }),
-      subst (λ x. Ok might (limit + k) x (z + k) (rename f e)) (let u : suc (d - pops t) + k ≡ suc (d + k - pops (renameToken f t)) = omega arith in u)
+      subst (λ x. Ok might (limit + k) x (z + k) (rename f e)) (let u : suc (d - pops t) + k ≡ suc (d + k - pops (renameToken f t)) =
+          omega arith in u)
           (ok-rename may might f k limit (after d t) z e h (o .1)),
     )
 
@@ -142,11 +147,13 @@ module _ (F : File) (may : ℕ → Bool) where
 
   -- ---- written, then read
 
-  pub parse-written : (d : ℕ) (e : List Token) → Ok may (depthLimit F) d 1 e → All (Holds F) e → parseFrom F may d 0 (exprBytes F e) ≡ Whole e
+  pub parse-written : (d : ℕ) (e : List Token) → Ok may (depthLimit F) d 1 e → All (Holds F) e
+      → parseFrom F may d 0 (exprBytes F e) ≡ Whole e
   unfolding parseFrom
   parse-written d [] o h = ap (λ b. cond b (Whole []) (Breaks [])) (eq-eqb d 1 o)
   parse-written d (t ∷ e) o h =
-      ap (λ r. onToken F may d (exprBytes F (t ∷ e)) r (λ c m. parseFrom F may c m (operands F t ++ exprBytes F e))) (token-written F t (exprBytes F e) (h .0))
+      ap (λ r. onToken F may d (exprBytes F (t ∷ e)) r (λ c m. parseFrom F may c m (operands F t ++ exprBytes F e)))
+      (token-written F t (exprBytes F e) (h .0))
       ∙ on-token F may d (exprBytes F (t ∷ e)) t (λ c m. parseFrom F may c m (operands F t ++ exprBytes F e)) (o .0)
       ∙ ap (also t) (
       parse-skip (after d t) (operandCount F t) (operands F t) (exprBytes F e) (operands-length F t)
@@ -160,11 +167,13 @@ module _ (F : File) (may : ℕ → Bool) where
     pub holds : All (Holds F) e
     pub bytes : exprBytes F e ≡ bs
 
-  ended : (d : ℕ) (bs : List ℕ) (e : List Token) → bs ≡ [] → (x : Bool) → eqb d 1 ≡ x → cond x (Whole []) (Breaks []) ≡ Whole e → Accepted d bs e
+  ended : (d : ℕ) (bs : List ℕ) (e : List Token) → bs ≡ [] → (x : Bool) → eqb d 1 ≡ x → cond x (Whole []) (Breaks []) ≡ Whole e
+      → Accepted d bs e
   ended d bs e n false q h = absurd (let z : _≡_ {A = ℕ} 0 1 = cc in omega arith)
   ended d bs e n true q h = let p : [] ≡ e = cc in subst (Accepted d bs) p (record { ok = eqb-true d 1 q; holds = tt; bytes = sym n })
 
-  front : (d b : ℕ) (bs : List ℕ) (e : List Token) → All Byte bs → (k : Took F may d (readToken F (b ∷ bs)) (λ c m. parseFrom F may c m bs) e)
+  front : (d b : ℕ) (bs : List ℕ) (e : List Token) → All Byte bs
+      → (k : Took F may d (readToken F (b ∷ bs)) (λ c m. parseFrom F may c m bs) e)
       → Accepted (after d (k .token)) (drop (operandCount F (k .token)) bs) (k .tail) → Accepted d (b ∷ bs) e
   front d b bs e o k a =
       let t = k .token in
@@ -203,16 +212,19 @@ parse-more F may might h d zero (b ∷ bs) e q =
 -- ---- at an offset
 
 module _ (F : File) (may : ℕ → Bool) (d : ℕ) where
-  token-first : (bs : List ℕ) → 0 < length bs → parseFrom F may d 0 bs ≡ onToken F may d bs (readToken F bs) (λ c m. parseFrom F may c 0 (drop (suc m) bs))
+  token-first : (bs : List ℕ) → 0 < length bs → parseFrom F may d 0 bs ≡ onToken F may d bs (readToken F bs)
+      (λ c m. parseFrom F may c 0 (drop (suc m) bs))
   unfolding parseFrom
   token-first [] h = absurd (omega arith)
   token-first (b ∷ bs) h = ap (onToken F may d (b ∷ bs) (readToken F (b ∷ bs))) (fun-ext (λ c. fun-ext (λ m. parse-drop F may c m bs)))
 
   pub token-at : (s : List ℕ) (i : ℕ) → i < length s
-      → parseFrom F may d 0 (drop i s) ≡ onToken F may d (drop i s) (readToken F (drop i s)) (λ c m. parseFrom F may c 0 (drop (i + suc m) s))
+      → parseFrom F may d 0 (drop i s) ≡ onToken F may d (drop i s) (readToken F (drop i s))
+      (λ c m. parseFrom F may c 0 (drop (i + suc m) s))
   token-at s i h =
       token-first (drop i s) (omega (arith, length-drop i s))
-      ∙ ap (onToken F may d (drop i s) (readToken F (drop i s))) (fun-ext (λ c. fun-ext (λ m. ap (parseFrom F may c 0) (drop-drop (suc m) i s))))
+      ∙ ap (onToken F may d (drop i s) (readToken F (drop i s)))
+      (fun-ext (λ c. fun-ext (λ m. ap (parseFrom F may c 0) (drop-drop (suc m) i s))))
 
   pub end-at : (s : List ℕ) (i : ℕ) → length s ≤ i → parseFrom F may d 0 (drop i s) ≡ cond (eqb d 1) (Whole []) (Breaks [])
   unfolding parseFrom

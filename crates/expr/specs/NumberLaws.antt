@@ -29,7 +29,8 @@ after-written : (a k n : ℕ) (rest : List ℕ) → numberAfter a k (bytesOf k n
 after-written a zero n rest = omega arith
 after-written a (suc k) n rest =
     after-written (a * 256 + n / 256 ^ k % 256) k n rest
-    ∙ (let p : n % (256 * 256 ^ k) ≡ (n / 256 ^ k % 256) * 256 ^ k + n % 256 ^ k = mod-mul n {m = 256} {c = 256 ^ k} (omega arith) (pow-pos k) in
+    ∙ (let p : n % (256 * 256 ^ k) ≡ (n / 256 ^ k % 256) * 256 ^ k + n % 256 ^ k = mod-mul n {m = 256} {c = 256 ^ k} (omega arith)
+    (pow-pos k) in
     let q : 256 ^ suc k ≡ 256 * 256 ^ k = omega (arith, pow-suc 256 k) in rw q (omega arith))
 
 pub number-written : (k n : ℕ) (rest : List ℕ) → n < 256 ^ k → numberOf k (bytesOf k n ++ rest) ≡ n

@@ -14,7 +14,8 @@ use Rattle.expr.specs.declared.accept.After.{After}
 use Rattle.expr.specs.declared.accept.After.the-variants.{Stop, Next}
 use Rattle.expr.specs.declared.eval.Operand.{Operand}
 use Rattle.expr.specs.Word.{unary, binary}
-use Rattle.expr.specs.Token.{Token, Const, Symbol, Un, Bin, Ite, unaryCode, binaryCode, symbolWidth, operandCount, operator, readToken}
+use Rattle.expr.specs.Token.{Token, Const, Symbol, Un, Bin, Ite, unaryCode, binaryCode, symbolWidth, operandCount, operator}
+use Rattle.expr.specs.Token.{readToken}
 use Rattle.expr.specs.Expr.{depthLimit, below, pops, after, fits, Parsed, Whole, Breaks}
 use Rattle.expr.specs.Eval.{Env, step, eval, top}
 

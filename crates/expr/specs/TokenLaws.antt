@@ -14,7 +14,8 @@ use Rattle.expr.specs.Lists.{All}
 use Rattle.expr.specs.Word.{Unary, Not, Neg, Zero, Binary, Add, Sub, Mul, Udiv, Urem, And, Or, Xor, Shl, Lshr, Equal, Ult, Ule, Slt}
 use Rattle.expr.specs.Number.{Byte, numberOf, bytesOf}
 use Rattle.expr.specs.NumberLaws.{bytesOf-length, number-written, number-lt, bytes-read}
-use Rattle.expr.specs.Token.{Token, Const, Symbol, Un, Bin, Ite, symbolCode, symbolWidth, unaryCode, binaryCode, code, operands, operandCount, tokenBytes, exprBytes, operators, coded, operator, operand, readToken}
+use Rattle.expr.specs.Token.{Token, Const, Symbol, Un, Bin, Ite, symbolCode, symbolWidth, unaryCode, binaryCode, code, operands}
+use Rattle.expr.specs.Token.{operandCount, tokenBytes, exprBytes, operators, coded, operator, operand, readToken}
 
 -- the number of a token fits its bytes
 abbrev pub Holds : File → Token → Type 0
@@ -39,7 +40,8 @@ symbolWidth-le Trace = omega arith
 
 operand-written : (k : ℕ) (token : ℕ → Token) (n : ℕ) (rest : List ℕ) → n < 256 ^ k → operand k token (bytesOf k n ++ rest) ≡ some (token n)
 operand-written k token n rest h =
-    ap (λ b. cond b (some (token (numberOf k (bytesOf k n ++ rest)))) none) (le-leb k _ (omega (arith, length-append (bytesOf k n) rest, bytesOf-length k n)))
+    ap (λ b. cond b (some (token (numberOf k (bytesOf k n ++ rest)))) none)
+    (le-leb k _ (omega (arith, length-append (bytesOf k n) rest, bytesOf-length k n)))
     ∙ ap {B = Option Token} (λ x. some (token x)) (number-written k n rest h)
 
 -- no operator has the code of a constant or a symbol
@@ -147,7 +149,8 @@ module _ (F : File) (b : ℕ) (bs : List ℕ) where
     operand-is : operand k token bs ≡ some t → (k ≤ length bs) × (token (numberOf k bs) ≡ t)
     operand-is h = go (leb k (length bs)) refl h
       where
-        go : (x : Bool) → leb k (length bs) ≡ x → cond x (some (token (numberOf k bs))) none ≡ some t → (k ≤ length bs) × (token (numberOf k bs) ≡ t)
+        go : (x : Bool) → leb k (length bs) ≡ x → cond x (some (token (numberOf k bs))) none ≡ some t
+            → (k ≤ length bs) × (token (numberOf k bs) ≡ t)
         go true e h = (leb-true k (length bs) e, (cc))
         go false e h = absurd (let z : _≡_ {A = ℕ} 0 1 = cc in omega arith)
 
@@ -174,12 +177,20 @@ module _ (F : File) (b : ℕ) (bs : List ℕ) where
   pub token-stands : (t : Token) → All Byte bs → readToken F (b ∷ bs) ≡ some t → Stands F (b ∷ bs) t
   token-stands t o h =
       read-cases t h
-      (λ e l q. subst (Stands F (b ∷ bs)) q (record { bytes = ap₂ {C = List ℕ} (λ x y. x ∷ y) (sym e) (bytes-read 4 bs o l); holds = number-lt 4 bs o }))
-      (λ e l q. subst (Stands F (b ∷ bs)) q (record { bytes = ap₂ {C = List ℕ} (λ x y. x ∷ y) (sym e) (bytes-read (symbolWidth F) bs o l); holds = number-lt (symbolWidth F) bs o }))
+      (λ e l q. subst (Stands F (b ∷ bs)) q (record {
+        bytes = ap₂ {C = List ℕ} (λ x y. x ∷ y) (sym e) (bytes-read 4 bs o l);
+        holds =
+            number-lt 4 bs o;
+      }))
+      (λ e l q. subst (Stands F (b ∷ bs)) q (record {
+        bytes = ap₂ {C = List ℕ} (λ x y. x ∷ y) (sym e) (bytes-read (symbolWidth F) bs o l);
+        holds = number-lt (symbolWidth F) bs o;
+      }))
       (operator-stands t)
 
 -- ---- the bytes of an expression
 
 pub bytes-append : (F : File) (a b : List Token) → exprBytes F (a ++ b) ≡ exprBytes F a ++ exprBytes F b
 bytes-append F [] b = refl
-bytes-append F (t ∷ a) b = ap (λ bs. tokenBytes F t ++ bs) (bytes-append F a b) ∙ sym (append-assoc (tokenBytes F t) (exprBytes F a) (exprBytes F b))
+bytes-append F (t ∷ a) b =
+    ap (λ bs. tokenBytes F t ++ bs) (bytes-append F a b) ∙ sym (append-assoc (tokenBytes F t) (exprBytes F a) (exprBytes F b))

@@ -2,7 +2,8 @@
 -- as the unsigned order of raised words. Callers cite these and never an operator's text.
 use Prim.Native.Nat.{ℕ, zero, suc, _+_, _-_, _*_, _/_, _%_, _^_, _≤_, _<_, min, max}
 use native.Mathlib.Omega.{arith}
-use native.Mathlib.Nat.{add-mul, mod-lt, mod-eq-of-lt, div-le-self, pow-suc, le-of-lt, lt-of-le-of-lt, mul-le-mul-left, mul-lt-mul-of-pos-right}
+use native.Mathlib.Nat.{add-mul, mod-lt, mod-eq-of-lt, div-le-self, pow-suc, le-of-lt, lt-of-le-of-lt, mul-le-mul-left}
+use native.Mathlib.Nat.{mul-lt-mul-of-pos-right}
 use native.Mathlib.Numerals.{sub-one}
 use mathlib.Core.Path.{_≡_, refl, sym, ap, ap₂, _∙_, subst, subst⁻¹}
 use mathlib.Core.Bool.{Bool, true, false, cond}
@@ -13,7 +14,8 @@ use lib.Bits.{differ, and-lt, or-lt, xor-lt, and-shr, or-shr, xor-shr, and-step,
 use lib.IntN.{pos, negsuc, subℕ}
 use lib.Signed.{ltZ}
 use borrow.Author.Tests.{ltb-true, ltb-false, lt-ltb, le-ltb, ne-eqb}
-use Rattle.expr.specs.Word.{Unary, Not, Neg, Zero, Binary, Add, Sub, Mul, Udiv, Urem, And, Or, Xor, Shl, Lshr, Equal, Ult, Ule, Slt, truthy, test, remainderByZero, signed, unary, binary, choice, bit}
+use Rattle.expr.specs.Word.{Unary, Not, Neg, Zero, Binary, Add, Sub, Mul, Udiv, Urem, And, Or, Xor, Shl, Lshr, Equal, Ult, Ule, Slt}
+use Rattle.expr.specs.Word.{truthy, test, remainderByZero, signed, unary, binary, choice, bit}
 
 -- ---- words in, words out
 
@@ -150,12 +152,14 @@ module _ (h a b : ℕ) (p : a < h + h) (q : b < h + h) where
   negative : (x : ℕ) → x < h + h → subℕ x (h + h) ≡ negsuc (h + h - suc x)
   negative x l = ap (λ t. cond t (negsuc (h + h - suc x)) (pos (x - (h + h)))) (lt-ltb x (h + h) l)
 
-  halves : ltZ (cond (ltb a h) (pos a) (subℕ a (h + h))) (cond (ltb b h) (pos b) (subℕ b (h + h))) ≡ ltb ((a + h) % (h + h)) ((b + h) % (h + h))
+  halves : ltZ (cond (ltb a h) (pos a) (subℕ a (h + h))) (cond (ltb b h) (pos b) (subℕ b (h + h))) ≡ ltb ((a + h) % (h + h))
+      ((b + h) % (h + h))
   halves = go (ltb a h) refl (ltb b h) refl
     where
       go : (s : Bool) → ltb a h ≡ s → (t : Bool) → ltb b h ≡ t
           → ltZ (cond s (pos a) (subℕ a (h + h))) (cond t (pos b) (subℕ b (h + h))) ≡ ltb ((a + h) % (h + h)) ((b + h) % (h + h))
-      go true d true e = rw (low a (ltb-true a h d), low b (ltb-true b h e)) (same-ltb a b (a + h) (b + h) (λ l. omega arith) (λ l. omega arith))
+      go true d true e =
+          rw (low a (ltb-true a h d), low b (ltb-true b h e)) (same-ltb a b (a + h) (b + h) (λ l. omega arith) (λ l. omega arith))
       go true d false e =
           rw (low a (ltb-true a h d), high b (ltb-false b h e) q, negative b q)
           (sym (le-ltb (a + h) (b - h) (omega (arith, ltb-false b h e))))
@@ -164,7 +168,8 @@ module _ (h a b : ℕ) (p : a < h + h) (q : b < h + h) where
           (sym (lt-ltb (a - h) (b + h) (omega (arith, ltb-false a h d))))
       go false d false e =
           rw (high a (ltb-false a h d) p, high b (ltb-false b h e) q, negative a p, negative b q)
-          (same-ltb (h + h - suc b) (h + h - suc a) (a - h) (b - h) (λ l. omega (arith, ltb-false a h d, ltb-false b h e)) (λ l. omega (arith, ltb-false a h d, ltb-false b h e)))
+          (same-ltb (h + h - suc b) (h + h - suc a) (a - h) (b - h) (λ l. omega (arith, ltb-false a h d, ltb-false b h e))
+          (λ l. omega (arith, ltb-false a h d, ltb-false b h e)))
 
 pub halved : (w : ℕ) → 0 < w → 2 ^ (w - 1) + 2 ^ (w - 1) ≡ 2 ^ w
 halved zero h = absurd (omega arith)
@@ -175,5 +180,6 @@ unfolding binary signed
 slt-raised w a b p h k =
     let e : 2 ^ (w - 1) + 2 ^ (w - 1) ≡ 2 ^ w = halved w p in
     ap test (
-    subst (λ n. ltZ (cond (ltb a (2 ^ (w - 1))) (pos a) (subℕ a n)) (cond (ltb b (2 ^ (w - 1))) (pos b) (subℕ b n)) ≡ ltb ((a + 2 ^ (w - 1)) % n) ((b + 2 ^ (w - 1)) % n)) e
+    subst (λ n. ltZ (cond (ltb a (2 ^ (w - 1))) (pos a) (subℕ a n)) (cond (ltb b (2 ^ (w - 1))) (pos b) (subℕ b n))
+    ≡ ltb ((a + 2 ^ (w - 1)) % n) ((b + 2 ^ (w - 1)) % n)) e
     (halves (2 ^ (w - 1)) a b (omega arith) (omega arith)))

@@ -14,7 +14,8 @@ ghost use lib.ListN.{length, getD, drop};
 ghost use Rattle.expr.specs.Token.{readToken, operator};
 ghost use Rattle.expr.specs.Expr.{below, parse};
 ghost use Rattle.expr.specs.Eval.{envOf};
-ghost use Rattle.expr.specs.Shown.{popsOf, turned, goes, isWhole, unaryOf, binaryOf, nowhere, Stands, operandOf, Stepped, sizeOf, valueOf};
+ghost use Rattle.expr.specs.Shown.{popsOf, turned, goes, isWhole, unaryOf, binaryOf, nowhere, Stands, operandOf, Stepped, sizeOf};
+ghost use Rattle.expr.specs.Shown.{valueOf};
 
 // What a token puts on the stack, and the bytes that it takes.
 pub struct Operand {
@@ -120,7 +121,8 @@ fn operand_at(e: &[u8], at: usize, file: File, vals: &[u32]) -> Operand
 
 // The operator at a place, on the first `depth` words; the words that are held then.
 fn apply_at(e: &[u8], at: usize, words: &mut [u32; 17], depth: usize) -> usize
-    requires { ⌜ (at < length (now e)) × (1 ≤ popsOf (getD (now e) at 0)) × (popsOf (getD (now e) at 0) ≤ depth) × (depth ≤ 17) × (length (now words) ≡ 17) ⌝ }
+    requires { ⌜ (at < length (now e)) × (1 ≤ popsOf (getD (now e) at 0)) × (popsOf (getD (now e) at 0) ≤ depth) × (depth ≤ 17)
+        × (length (now words) ≡ 17) ⌝ }
     ensures { λ r. ⌜ Stepped nowhere (operator (getD (now (e .entry)) at 0)) (now (words .entry)) depth (now (words .exit)) r ⌝ }
 {
     apply(e[at], words, depth)
@@ -128,8 +130,11 @@ fn apply_at(e: &[u8], at: usize, words: &mut [u32; 17], depth: usize) -> usize
 
 // The token at the reader's place, on the stack; the bytes that it took.
 fn token<'a>(s: &mut Stack, r: Reader<'a>, file: File, vals: &[u32]) -> usize
-    requires { ⌜ (r .at < length (now (r .rec))) × (now s .depth ≤ 17) × (length (now s .words) ≡ 17) × (goes (turned file (below (length (now vals))) (now s .depth) (readToken file (drop (r .at) (now (r .rec))))) ≡ true) ⌝ }
-    ensures { λ n. ⌜ (n ≡ sizeOf file (readToken file (drop (r .entry .at) (now (r .entry .rec))))) × Stepped (envOf (now (vals .entry))) (readToken file (drop (r .entry .at) (now (r .entry .rec)))) (now (s .entry) .words) (now (s .entry) .depth) (now (s .exit) .words) (now (s .exit) .depth) ⌝ }
+    requires { ⌜ (r .at < length (now (r .rec))) × (now s .depth ≤ 17) × (length (now s .words) ≡ 17)
+        × (goes (turned file (below (length (now vals))) (now s .depth) (readToken file (drop (r .at) (now (r .rec))))) ≡ true) ⌝ }
+    ensures { λ n. ⌜ (n ≡ sizeOf file (readToken file (drop (r .entry .at) (now (r .entry .rec))))) × Stepped (envOf (now (vals .entry)))
+        (readToken file (drop (r .entry .at) (now (r .entry .rec)))) (now (s .entry) .words) (now (s .entry) .depth) (now (s .exit) .words)
+        (now (s .exit) .depth) ⌝ }
 {
     let depth = s.depth;
     let t = operand_at(r.rec, r.at, file, vals);

@@ -1,6 +1,7 @@
 // Arithmetic on 32-bit words: one function for each operator.
 ghost use mathlib.Core.Path.{_≡_};
-ghost use Rattle.expr.specs.Word.{unary, binary, choice, Not, Neg, Zero, Add, Sub, Mul, Udiv, Urem, And, Or, Xor, Shl, Lshr, Equal, Ult, Ule, Slt};
+ghost use Rattle.expr.specs.Word.{unary, binary, choice, Not, Neg, Zero, Add, Sub, Mul, Udiv, Urem, And, Or, Xor, Shl, Lshr, Equal};
+ghost use Rattle.expr.specs.Word.{Ult, Ule, Slt};
 
 pub fn not(a: u32) -> u32
     ensures { λ r. ⌜ r ≡ unary 32 Not a ⌝ }

@@ -6,7 +6,8 @@ use native.Mathlib.Decide.{decLt}
 use mathlib.Core.Path.{_≡_, refl, sym, ap, ap₂, _∙_, subst, fun-ext}
 use mathlib.Core.Bool.{Bool, true, false, cond, _&&_}
 use mathlib.Core.List.{List, [], _∷_, _++_}
-use lib.ListN.{length, take, drop, getD, set, length-drop, replicate, length-replicate, getD-replicate, drop-of-length-le, List·getD-append, List·getD-eq-default}
+use lib.ListN.{length, take, drop, getD, set, length-drop, replicate, length-replicate, getD-replicate, drop-of-length-le}
+use lib.ListN.{List·getD-append, List·getD-eq-default}
 use lib.Seq.{length-take-le, take-all, take-suc, drop-drop, drop-cons, getD-drop, getD-append-add, append-snoc, sets, sets-eq}
 use lib.Dec.{leb, eqb}
 use borrow.Author.Tests.{eqb-true, eqb-false, eq-eqb, ne-eqb, leb-true, leb-false, le-leb, lt-leb}
@@ -19,7 +20,8 @@ use Rattle.expr.specs.Shown.{checked}
 use Rattle.expr.specs.Expr.{Parsed, Whole, Breaks, parse}
 use Rattle.expr.specs.Eval.{envOf}
 use Rattle.file.specs.Shown.{replyOf, exprReply, oneMore, readCount, readingOf, offsetsFrom}
-use Rattle.file.specs.File.{headerInputs, headerCount, headerReply, Body, Good, Bad, field, rule, holding, frame, Records, Read, Stop, Accepted, Refused, recordOf, before, onRecord, records, finish, readFile}
+use Rattle.file.specs.File.{headerInputs, headerCount, headerReply, Body, Good, Bad, field, rule, holding, frame, Records, Read}
+use Rattle.file.specs.File.{Stop, Accepted, Refused, recordOf, before, onRecord, records, finish, readFile}
 
 -- ---- frames
 
@@ -116,7 +118,8 @@ module _ {A : Type 0} where
 
   record-low : (one : List ℕ → Body A) → ((bs : List ℕ) → Low (one bs)) → (bs : List ℕ) → Low (recordOf one bs)
   unfolding recordOf
-  record-low one low bs = cond-low (eqb (frame bs) 0) (Bad 5) (one (take (frame bs) (drop 2 bs))) (omega arith, omega arith) (low (take (frame bs) (drop 2 bs)))
+  record-low one low bs = cond-low (eqb (frame bs) 0) (Bad 5) (one (take (frame bs) (drop 2 bs))) (omega arith, omega arith)
+      (low (take (frame bs) (drop 2 bs)))
 
 -- the reply to the expression from a place of a record on, by what the check of that part says
 module _ (F : File) (may : ℕ → Bool) (from : ℕ) (body : List ℕ) where
@@ -126,14 +129,16 @@ module _ (F : File) (may : ℕ → Bool) (from : ℕ) (body : List ℕ) where
   same-part : parse F may (take (length body - from) (drop from body)) ≡ parse F may (drop from body)
   same-part = ap (parse F may) (take-all (length body - from) (drop from body) (omega (arith, length-drop from body)))
 
-  pub expr-fine : (n : ℕ) → checked n (parse F may (take (length body - from) (drop from body))) ≡ Fine → 0 ≡ exprReply (parse F may (drop from body))
+  pub expr-fine : (n : ℕ) → checked n (parse F may (take (length body - from) (drop from body))) ≡ Fine
+      → 0 ≡ exprReply (parse F may (drop from body))
   expr-fine n h = go cut h ∙ ap exprReply same-part
     where
       go : (p : Parsed) → checked n p ≡ Fine → 0 ≡ exprReply p
       go (Whole e) h = refl
       go (Breaks bs) h = absurd (let z : _≡_ {A = ℕ} 0 1 = cc in omega arith)
 
-  pub expr-broken : (n i : ℕ) → checked n (parse F may (take (length body - from) (drop from body))) ≡ Broken i → 7 ≡ exprReply (parse F may (drop from body))
+  pub expr-broken : (n i : ℕ) → checked n (parse F may (take (length body - from) (drop from body))) ≡ Broken i
+      → 7 ≡ exprReply (parse F may (drop from body))
   expr-broken n i h = go cut h ∙ ap exprReply same-part
     where
       go : (p : Parsed) → checked n p ≡ Broken i → 7 ≡ exprReply p
@@ -146,7 +151,8 @@ pub stop-low : {A St : Type 0} (one : St → List ℕ → Body A) (next : St →
 unfolding records
 stop-low one next low zero σ [] r rest e = absurd (let z : _≡_ {A = ℕ} 0 1 = cc in omega arith)
 stop-low one next low zero σ (b ∷ bs) r rest e = let z : 5 ≡ r = cc in omega arith
-stop-low {A = A} one next low (suc c) σ bs r rest e = go (recordOf (one σ) bs) (record-low (one σ) (low σ) bs) e (λ a. stop-low one next low c (next σ a) (drop (2 + frame bs) bs))
+stop-low {A = A} one next low (suc c) σ bs r rest e =
+    go (recordOf (one σ) bs) (record-low (one σ) (low σ) bs) e (λ a. stop-low one next low c (next σ a) (drop (2 + frame bs) bs))
   where
     on : (a : A) (p : Records A) → records one next c (next σ a) (drop (2 + frame bs) bs) ≡ p → before a p ≡ Stop r rest
         → ((q : ℕ) (xs : List ℕ) → records one next c (next σ a) (drop (2 + frame bs) bs) ≡ Stop q xs → 0 < q) → 0 < r
@@ -203,12 +209,13 @@ reading-offset total count (Stop r bs) = omega arith
 -- ---- what is read
 
 -- the records that are left begin with `head`
-pub record Next {A St : Type 0} (one : St → List ℕ → Body A) (next : St → A → St) (s : List ℕ) (at c : ℕ) (σ : St) (xs : List A) : Type 0 where
-  pub head : A
-  pub tail : List A
-  pub is : xs ≡ head ∷ tail
-  pub good : recordOf (one σ) (drop at s) ≡ Good head
-  pub on : records one next c (next σ head) (drop (at + (2 + frame (drop at s))) s) ≡ Read tail
+pub record Next {A St : Type 0} (one : St → List ℕ → Body A) (next : St → A → St) (s : List ℕ) (at c : ℕ) (σ : St) (xs : List A) : Type 0
+  where
+    pub head : A
+    pub tail : List A
+    pub is : xs ≡ head ∷ tail
+    pub good : recordOf (one σ) (drop at s) ≡ Good head
+    pub on : records one next c (next σ head) (drop (at + (2 + frame (drop at s))) s) ≡ Read tail
 
 module _ {A St : Type 0} (one : St → List ℕ → Body A) (next : St → A → St) (s : List ℕ) where
   pub next-record : (at c : ℕ) (σ : St) (xs : List A) → records one next (suc c) σ (drop at s) ≡ Read xs → Next one next s at c σ xs
@@ -216,9 +223,11 @@ module _ {A St : Type 0} (one : St → List ℕ → Body A) (next : St → A →
     where
       go : (x : Body A) → recordOf (one σ) (drop at s) ≡ x → Next one next s at c σ xs
       go (Bad r) e = absurd (let z = sym h ∙ records-bad one next s at c σ r e in let y : _≡_ {A = ℕ} 0 1 = cc in omega arith)
-      go (Good a) e = on (records one next c (next σ a) (drop (at + (2 + frame (drop at s))) s)) refl (sym (records-good one next s at c σ a e) ∙ h)
+      go (Good a) e =
+          on (records one next c (next σ a) (drop (at + (2 + frame (drop at s))) s)) refl (sym (records-good one next s at c σ a e) ∙ h)
         where
-          on : (p : Records A) → records one next c (next σ a) (drop (at + (2 + frame (drop at s))) s) ≡ p → before a p ≡ Read xs → Next one next s at c σ xs
+          on : (p : Records A) → records one next c (next σ a) (drop (at + (2 + frame (drop at s))) s) ≡ p → before a p ≡ Read xs
+              → Next one next s at c σ xs
           on (Stop r bs) q h = absurd (let y : _≡_ {A = ℕ} 0 1 = cc in omega arith)
           on (Read ys) q h = record { head = a; tail = ys; is = (let k : xs ≡ a ∷ ys = cc in k); good = e; on = q }
 
@@ -243,7 +252,8 @@ module _ {A St : Type 0} (one : St → List ℕ → Body A) (next : St → A →
       let g = record-good (one σ) (drop at s) (k .head) (k .good) in
       let l = frame (drop at s) in
       let rest = records-chain Q sound c (at + (2 + frame (drop at s))) (next σ (k .head)) (k .tail) (k .on) in
-      subst (λ ys. Chain Q σ ys × (length ys ≡ suc c)) (sym (k .is)) ((sound σ l (at + 2) (k .head) (ap (λ r. one σ (take l r)) (sym (drop-drop 2 at s)) ∙ g .1), rest .0), ap suc (rest .1))
+      subst (λ ys. Chain Q σ ys × (length ys ≡ suc c)) (sym (k .is))
+      ((sound σ l (at + 2) (k .head) (ap (λ r. one σ (take l r)) (sym (drop-drop 2 at s)) ∙ g .1), rest .0), ap suc (rest .1))
 
   -- all that are read are counted
   pub count-all : (c at : ℕ) (σ : St) (xs : List A) → records one next c σ (drop at s) ≡ Read xs → readCount one next c σ (drop at s) ≡ c
@@ -251,7 +261,8 @@ module _ {A St : Type 0} (one : St → List ℕ → Body A) (next : St → A →
   count-all zero at σ xs h = refl
   count-all (suc c) at σ xs h =
       let k = next-record at c σ xs h in
-      count-good one next s at c σ (k .head) (k .good) ∙ ap suc (count-all c (at + (2 + frame (drop at s))) (next σ (k .head)) (k .tail) (k .on))
+      count-good one next s at c σ (k .head) (k .good)
+      ∙ ap suc (count-all c (at + (2 + frame (drop at s))) (next σ (k .head)) (k .tail) (k .on))
 
 -- ---- files
 
@@ -265,10 +276,13 @@ pub record Header (version limit : ℕ) (s : List ℕ) : Type 0 where
 
 pub header-is : (version limit : ℕ) (s : List ℕ) → headerReply version limit s ≡ 0 → Header version limit s
 unfolding headerReply
-header-is v limit s h = go (leb 6 (length s)) refl (eqb (getD s 0 0) v) refl (eqb (numberOf 2 (drop 1 s)) (length s)) refl (leb (headerInputs s) 64 && leb (headerCount s) limit) refl h
+header-is v limit s h =
+    go (leb 6 (length s)) refl (eqb (getD s 0 0) v) refl (eqb (numberOf 2 (drop 1 s)) (length s)) refl
+    (leb (headerInputs s) 64 && leb (headerCount s) limit) refl h
   where
     go : (a : Bool) → leb 6 (length s) ≡ a → (b : Bool) → eqb (getD s 0 0) v ≡ b → (c : Bool) → eqb (numberOf 2 (drop 1 s)) (length s) ≡ c
-        → (d : Bool) → (leb (headerInputs s) 64 && leb (headerCount s) limit) ≡ d → _≡_ {A = ℕ} (cond a (cond b (cond c (cond d 0 4) 3) 2) 1) 0 → Header v limit s
+        → (d : Bool) → (leb (headerInputs s) 64 && leb (headerCount s) limit) ≡ d
+        → _≡_ {A = ℕ} (cond a (cond b (cond c (cond d 0 4) 3) 2) 1) 0 → Header v limit s
     go false p b q c r d t h = absurd (omega arith)
     go true p false q c r d t h = absurd (omega arith)
     go true p true q false r d t h = absurd (omega arith)
@@ -288,11 +302,14 @@ module _ {A : Type 0} (version limit : ℕ) (body : (S n : ℕ) → List ℕ →
   unfolding readFile
   file-refused r e h =
       ap (λ x. cond (eqb x 0) (finish (length s) (headerInputs s) (body (headerInputs s) (headerCount s) (drop 6 s))) (Refused x 0)) e
-      ∙ ap (λ b. cond b (finish (length s) (headerInputs s) (body (headerInputs s) (headerCount s) (drop 6 s))) (Refused r 0)) (ne-eqb r 0 h)
+      ∙ ap (λ b. cond b (finish (length s) (headerInputs s) (body (headerInputs s) (headerCount s) (drop 6 s))) (Refused r 0))
+      (ne-eqb r 0 h)
 
-  pub file-read : headerReply version limit s ≡ 0 → readFile version limit body s ≡ finish (length s) (headerInputs s) (body (headerInputs s) (headerCount s) (drop 6 s))
+  pub file-read : headerReply version limit s ≡ 0 → readFile version limit body s ≡ finish (length s) (headerInputs s)
+      (body (headerInputs s) (headerCount s) (drop 6 s))
   unfolding readFile
-  file-read e = ap (λ x. cond (eqb x 0) (finish (length s) (headerInputs s) (body (headerInputs s) (headerCount s) (drop 6 s))) (Refused x 0)) e
+  file-read e =
+      ap (λ x. cond (eqb x 0) (finish (length s) (headerInputs s) (body (headerInputs s) (headerCount s) (drop 6 s))) (Refused x 0)) e
 
   -- what an accepted file is
   pub record IsFile (S : ℕ) (xs : List A) : Type 0 where
@@ -303,16 +320,25 @@ module _ {A : Type 0} (version limit : ℕ) (body : (S n : ℕ) → List ℕ →
   pub file-is : (S : ℕ) (xs : List A) → readFile version limit body s ≡ Accepted S xs → IsFile S xs
   file-is S xs h = go (eqb (headerReply version limit s) 0) refl
     where
-      done : (p : Records A) → body (headerInputs s) (headerCount s) (drop 6 s) ≡ p → finish (length s) (headerInputs s) p ≡ Accepted S xs → headerReply version limit s ≡ 0 → IsFile S xs
+      done : (p : Records A) → body (headerInputs s) (headerCount s) (drop 6 s) ≡ p → finish (length s) (headerInputs s) p ≡ Accepted S xs
+          → headerReply version limit s ≡ 0 → IsFile S xs
       done (Stop r bs) q e z = absurd (let y : _≡_ {A = ℕ} 0 1 = cc in omega arith)
       done (Read ys) q e z =
           let i : headerInputs s ≡ S = cc in
           let x : ys ≡ xs = cc in
-          record { header = z; inputs = i; read = subst (λ T. body T (headerCount s) (drop 6 s) ≡ Read xs) i (q ∙ ap {B = Records A} Read x) }
+          record {
+            header = z;
+            inputs = i;
+            read = subst (λ T. body T (headerCount s) (drop 6 s) ≡ Read xs) i
+                (q ∙ ap {B = Records A} Read x);
+          }
 
       go : (x : Bool) → eqb (headerReply version limit s) 0 ≡ x → IsFile S xs
-      go true e = let z = eqb-true (headerReply version limit s) 0 e in done (body (headerInputs s) (headerCount s) (drop 6 s)) refl (sym (file-read z) ∙ h) z
-      go false e = absurd (let z = sym h ∙ file-refused (headerReply version limit s) refl (eqb-false (headerReply version limit s) 0 e) in let y : _≡_ {A = ℕ} 0 1 = cc in omega arith)
+      go true e = let z = eqb-true (headerReply version limit s) 0 e in done (body (headerInputs s) (headerCount s) (drop 6 s)) refl
+          (sym (file-read z) ∙ h) z
+      go false e =
+          absurd (let z = sym h ∙ file-refused (headerReply version limit s) refl (eqb-false (headerReply version limit s) 0 e) in
+          let y : _≡_ {A = ℕ} 0 1 = cc in omega arith)
 
 -- a refused file's reply is not 0
 module _ {A St : Type 0} (version limit : ℕ) (one : (S n : ℕ) → St → List ℕ → Body A) (next : St → A → St) (first : (S : ℕ) → St)
@@ -374,7 +400,9 @@ module _ (s : List ℕ) (k at : ℕ) (r : Reached s k at) where
 
 pub sets-snoc : (xs : List ℕ) (i : ℕ) (vs : List ℕ) (v : ℕ) → sets xs i (vs ++ v ∷ []) ≡ set (sets xs i vs) (i + length vs) v
 sets-snoc xs i [] v = ap (λ k. set xs k v) (let e : i ≡ i + 0 = omega arith in e)
-sets-snoc xs i (a ∷ vs) v = sets-snoc (set xs i a) (suc i) vs v ∙ ap (λ k. set (sets (set xs i a) (suc i) vs) k v) (let e : suc i + length vs ≡ i + suc (length vs) = omega arith in e)
+sets-snoc xs i (a ∷ vs) v =
+    sets-snoc (set xs i a) (suc i) vs v ∙ ap (λ k. set (sets (set xs i a) (suc i) vs) k v)
+    (let e : suc i + length vs ≡ i + suc (length vs) = omega arith in e)
 
 pub sets-at : (xs vs : List ℕ) (k : ℕ) → length vs ≤ length xs → k < length vs → getD (sets xs 0 vs) k 0 ≡ getD vs k 0
 sets-at xs vs k h l =
@@ -385,16 +413,27 @@ sets-at xs vs k h l =
 
 pub copy-next : (xs ws : List ℕ) (s : ℕ) → s < length ws → set (sets xs 0 (take s ws)) s (getD ws s 0) ≡ sets xs 0 (take (s + 1) ws)
 copy-next xs ws s h =
-    ap (λ k. set (sets xs 0 (take s ws)) k (getD ws s 0)) (let e : s ≡ 0 + length (take s ws) = omega (arith, length-take-le s ws (omega arith)) in e)
+    ap (λ k. set (sets xs 0 (take s ws)) k (getD ws s 0))
+    (let e : s ≡ 0 + length (take s ws) = omega (arith, length-take-le s ws (omega arith)) in e)
     ∙ sym (sets-snoc xs 0 (take s ws) (getD ws s 0))
     ∙ sym (ap (sets xs 0) (ap (λ n. take n ws) (add-one s) ∙ take-suc ws s 0 h))
 
 pub same-everywhere : {A : Type 0} (n : ℕ) (a : A) (x : ℕ) → getD (replicate n a) x a ≡ a
-same-everywhere {A} n a x = elim (decLt x n) [ yes h ↦ getD-replicate n x a a h | no h ↦ List·getD-eq-default (replicate n a) a {n = x} (omega (arith, length-replicate {A = A} n a)) ]
+same-everywhere {A} n a x =
+    elim (decLt x n) [
+      | yes h ↦ getD-replicate n x a a h
+      | no h ↦ List·getD-eq-default (replicate n a) a {n = x}
+          (omega (arith, length-replicate {A = A} n a))
+    ]
 
 -- the values of symbols past the words are 0 in both
 pub copy-env : (n : ℕ) (ws : List ℕ) → length ws ≤ n → envOf (sets (replicate n 0) 0 ws) ≡ envOf ws
-copy-env n ws h = fun-ext (λ x. elim (decLt x (length ws)) [ yes l ↦ sets-at (replicate n 0) ws x (omega (arith, length-replicate {A = ℕ} n 0)) l | no l ↦ past x (omega arith) ])
+copy-env n ws h =
+    fun-ext (λ x. elim (decLt x (length ws)) [
+      | yes l ↦ sets-at (replicate n 0) ws x (omega (arith, length-replicate {A = ℕ} n 0)) l
+      | no l
+          ↦ past x (omega arith)
+    ])
   where
     past : (x : ℕ) → length ws ≤ x → getD (sets (replicate n 0) 0 ws) x 0 ≡ getD ws x 0
     past x l =
@@ -420,10 +459,12 @@ module _ {A : Type 0} where
   reply-holding f (Whole e) = refl
   reply-holding f (Breaks bs) = refl
 
-  pub field-good : (k : ℕ) (bs : List ℕ) (f : ℕ → List ℕ → Body A) (a : A) → field k bs f ≡ Good a → (k ≤ length bs) × (f (numberOf k bs) (drop k bs) ≡ Good a)
+  pub field-good : (k : ℕ) (bs : List ℕ) (f : ℕ → List ℕ → Body A) (a : A) → field k bs f ≡ Good a
+      → (k ≤ length bs) × (f (numberOf k bs) (drop k bs) ≡ Good a)
   field-good k bs f a h = go (leb k (length bs)) refl h
     where
-      go : (x : Bool) → leb k (length bs) ≡ x → cond x (f (numberOf k bs) (drop k bs)) (Bad 5) ≡ Good a → (k ≤ length bs) × (f (numberOf k bs) (drop k bs) ≡ Good a)
+      go : (x : Bool) → leb k (length bs) ≡ x → cond x (f (numberOf k bs) (drop k bs)) (Bad 5) ≡ Good a
+          → (k ≤ length bs) × (f (numberOf k bs) (drop k bs) ≡ Good a)
       go true e h = (leb-true k (length bs) e, h)
       go false e h = absurd (let z : _≡_ {A = ℕ} 0 1 = cc in omega arith)
 

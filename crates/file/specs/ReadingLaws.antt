@@ -1,5 +1,5 @@
--- What the code's reading of a file says of it: the file is refused with the reading's reply and offset, or accepted with the offsets of all records
--- stored.
+-- What the code's reading of a file says of it: the file is refused with the reading's reply and offset, or accepted with the offsets of
+-- all records stored.
 use Prim.Native.Nat.{ℕ, _≤_, _<_}
 use native.Mathlib.Omega.{arith}
 use mathlib.Core.Path.{_≡_, refl, sym, ap, ap₂, _∙_, subst}
@@ -12,9 +12,12 @@ use borrow.Author.Tests.{eqb-true, eqb-false, ne-eqb}
 use Rattle.expr.specs.Lists.{All, all-drop}
 use Rattle.expr.specs.Number.{Byte}
 use Rattle.expr.specs.NumberLaws.{number-lt}
-use Rattle.file.specs.File.{headerInputs, headerCount, headerReply, Body, Records, Read, Stop, records, Input, Accepted, Refused, finish, readFile}
-use Rattle.file.specs.Shown.{readCount, readingOf, offsetsFrom, ReadRecords, isAccepted, listed, fileReading, fileCount, ReadFile, Ready}
-use Rattle.file.specs.FileLaws.{Low, reading-offset, records-chain, count-all, Header, header-is, file-refused, file-read, file-is, file-refused-positive, offsets-length, sets-at}
+use Rattle.file.specs.File.{headerInputs, headerCount, headerReply, Body, Records, Read, Stop, records, Input, Accepted, Refused}
+use Rattle.file.specs.File.{finish, readFile}
+use Rattle.file.specs.Shown.{readCount, readingOf, offsetsFrom, ReadRecords, isAccepted, listed, fileReading, fileCount, ReadFile}
+use Rattle.file.specs.Shown.{Ready}
+use Rattle.file.specs.FileLaws.{Low, reading-offset, records-chain, count-all, Header, header-is, file-refused, file-read, file-is}
+use Rattle.file.specs.FileLaws.{file-refused-positive, offsets-length, sets-at}
 use Rattle.file.specs.declared.Reading.{Reading}
 
 -- a file whose length field is right is short
@@ -22,7 +25,8 @@ pub short : (version limit : ℕ) (s : List ℕ) → All Byte s → headerReply 
 short version limit s o h = omega (arith, number-lt 2 (drop 1 s) (all-drop Byte 1 s o), header-is version limit s h .total)
 
 -- a reply is the file's
-pub reply-refuses : {A : Type 0} {file : Input A} {count : ℕ} {s off off′ : List ℕ} {r : Reading} → ReadFile file count s off off′ r → (r .reply ≡ 0 → ⊥)
+pub reply-refuses : {A : Type 0} {file : Input A} {count : ℕ} {s off off′ : List ℕ} {r : Reading} → ReadFile file count s off off′ r
+    → (r .reply ≡ 0 → ⊥)
     → file ≡ Refused (r .reply) (r .offset)
 reply-refuses {A} {file} {count} {r = r} w h = go file refl (w .answer)
   where
@@ -30,7 +34,8 @@ reply-refuses {A} {file} {count} {r = r} w h = go file refl (w .answer)
     go (Accepted S xs) e q = absurd (h (ap (λ r. r .reply) q))
     go (Refused k at) e q = e ∙ sym (ap₂ {C = Input A} Refused (ap (λ r. r .reply) q) (ap (λ r. r .offset) q))
 
-module _ {A St : Type 0} (version limit : ℕ) (one : (S n : ℕ) → St → List ℕ → Body A) (next : St → A → St) (first : (S : ℕ) → St) (s : List ℕ) where
+module _ {A St : Type 0} (version limit : ℕ) (one : (S n : ℕ) → St → List ℕ → Body A) (next : St → A → St) (first : (S : ℕ) → St)
+    (s : List ℕ) where
   abbrev S : ℕ
   S = headerInputs s
 
@@ -61,7 +66,8 @@ module _ {A St : Type 0} (version limit : ℕ) (one : (S n : ℕ) → St → Lis
 
   -- ---- the ways to a reading: the header refuses, or the records are read
 
-  pub header-read : (r : ℕ) → r ≡ headerReply version limit s → (r ≡ 0 → ⊥) → (off : List ℕ) → ReadFile file count s off off (record { reply = r; offset = 0; count = 0 })
+  pub header-read : (r : ℕ) → r ≡ headerReply version limit s → (r ≡ 0 → ⊥) → (off : List ℕ)
+      → ReadFile file count s off off (record { reply = r; offset = 0; count = 0 })
   unfolding offsetsFrom
   header-read r e h off =
       let none : count ≡ 0 = ap (λ x. cond (eqb x 0) counted 0) (sym e) ∙ ap (λ b. cond b counted 0) (ne-eqb r 0 h) in
@@ -75,7 +81,11 @@ module _ {A St : Type 0} (version limit : ℕ) (one : (S n : ℕ) → St → Lis
     records-read w =
         let answer : r ≡ fileReading count file
         = w .answer ∙ as-file counted all ∙ sym (ap₂ (λ c x. fileReading c x) (count-is head) (file-read version limit body s head)) in
-        record { answer = answer; stored = w .stored ∙ ap (λ c. sets off 0 (offsetsFrom c 6 (drop 6 s))) (ap (λ r. r .count) answer ∙ kept file) }
+        record {
+          answer = answer;
+          stored = w .stored ∙ ap (λ c. sets off 0 (offsetsFrom c 6 (drop 6 s))) (ap (λ r. r .count) answer
+              ∙ kept file);
+        }
       where
         kept : (x : Input A) → (fileReading count x) .count ≡ count
         kept (Accepted S xs) = refl
@@ -90,11 +100,13 @@ module _ {A St : Type 0} (version limit : ℕ) (one : (S n : ℕ) → St → Lis
         go : (b : Bool) → eqb (headerReply version limit s) 0 ≡ b → r .offset < 65536
         go true e =
             let h = eqb-true (headerReply version limit s) 0 e in
-            let q : r ≡ readingOf (length s) count all = w .answer ∙ ap (fileReading count) (file-read version limit body s h) ∙ sym (as-file count all) in
+            let q : r ≡ readingOf (length s) count all = w .answer ∙ ap (fileReading count) (file-read version limit body s h)
+            ∙ sym (as-file count all) in
             omega (arith, ap (λ r. r .offset) q, reading-offset (length s) count all, short version limit s o h)
         go false e =
             let h : headerReply version limit s ≡ 0 → ⊥ = eqb-false (headerReply version limit s) 0 e in
-            let q : r .offset ≡ 0 = ap (λ r. r .offset) (w .answer ∙ ap (fileReading count) (file-refused version limit body s (headerReply version limit s) refl h)) in
+            let q : r .offset ≡ 0 = ap (λ r. r .offset)
+            (w .answer ∙ ap (fileReading count) (file-refused version limit body s (headerReply version limit s) refl h)) in
             omega arith
 
     module _ (low : (S n : ℕ) (σ : St) (bs : List ℕ) → Low (one S n σ bs)) (h : r .reply ≡ 0) where
@@ -109,7 +121,8 @@ module _ {A St : Type 0} (version limit : ℕ) (one : (S n : ℕ) → St → Lis
         where
           go : (x : Input A) → file ≡ x → r ≡ fileReading count x → Accepts
           go (Refused k at) e q =
-              absurd (let z : r .reply ≡ k = ap (λ r. r .reply) q in omega (arith, file-refused-positive version limit one next first low s k at e))
+              absurd (let z : r .reply ≡ k = ap (λ r. r .reply) q in
+              omega (arith, file-refused-positive version limit one next first low s k at e))
           go (Accepted T xs) e q =
               let f = file-is version limit body s T xs e in
               let i : T ≡ S = sym (f .inputs) in
@@ -143,5 +156,7 @@ module _ {A St : Type 0} (version limit : ℕ) (one : (S n : ℕ) → St → Lis
             accepted = ap isAccepted (accepts .is);
             count = reads-all;
             room = omega (arith, ap length stored, length-sets off 0 (offsetsFrom (r .count) 6 (drop 6 s)), reads-all);
-            stored = λ i k. ap (λ o. getD o i 0) stored ∙ sets-at off (offsetsFrom (r .count) 6 (drop 6 s)) i (omega (arith, reads-all)) (omega arith);
+            stored =
+                λ i k. ap (λ o. getD o i 0) stored ∙ sets-at off (offsetsFrom (r .count) 6 (drop 6 s)) i (omega (arith, reads-all))
+                (omega arith);
           }

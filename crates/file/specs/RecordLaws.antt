@@ -12,8 +12,10 @@ use Rattle.file.specs.File.{Body, Good, frame, recordOf}
 use Rattle.file.specs.Shown.{restOf}
 use Rattle.file.specs.FileLaws.{framed, record-good}
 
-pub rest-length : (s : List ℕ) (at from : ℕ) → at + (2 + numberOf 2 (drop at s)) ≤ length s → from ≤ 2 + numberOf 2 (drop at s) → from + length (restOf s at from) ≡ 2 + numberOf 2 (drop at s)
-rest-length s at from h l = omega (arith, length-take-le (2 + numberOf 2 (drop at s) - from) (drop (at + from) s) (omega (arith, length-drop (at + from) s)))
+pub rest-length : (s : List ℕ) (at from : ℕ) → at + (2 + numberOf 2 (drop at s)) ≤ length s → from ≤ 2 + numberOf 2 (drop at s)
+    → from + length (restOf s at from) ≡ 2 + numberOf 2 (drop at s)
+rest-length s at from h l =
+    omega (arith, length-take-le (2 + numberOf 2 (drop at s) - from) (drop (at + from) s) (omega (arith, length-drop (at + from) s)))
 
 module _ {A : Type 0} (one : List ℕ → Body A) (s : List ℕ) (at : ℕ) (a : A) (g : recordOf one (drop at s) ≡ Good a) where
   abbrev pub body : List ℕ
@@ -32,7 +34,9 @@ module _ {A : Type 0} (one : List ℕ → Body A) (s : List ℕ) (at : ℕ) (a :
   inside = omega (arith, framed (drop at s) (some .0) .inside, length-drop at s, some .0)
 
   pub body-length : length body ≡ numberOf 2 (drop at s)
-  body-length = length-take-le (frame (drop at s)) (drop 2 (drop at s)) (omega (arith, inside, length-drop at s, length-drop 2 (drop at s))) ∙ sym is-frame
+  body-length =
+      length-take-le (frame (drop at s)) (drop 2 (drop at s)) (omega (arith, inside, length-drop at s, length-drop 2 (drop at s)))
+      ∙ sym is-frame
 
   pub body-some : 0 < length body
   body-some = omega (arith, body-length, is-frame, some .0)

@@ -9,7 +9,8 @@ use lib.Dec.{eqb}
 use Rattle.expr.specs.Number.{numberOf}
 use Rattle.expr.specs.Expr.{Parsed, Whole, Breaks}
 use Rattle.file.specs.Outcome.{Kind, Assume, Assert}
-use Rattle.file.specs.File.{headerInputs, headerCount, headerReply, Body, Good, Bad, frame, recordOf, Records, Read, Stop, records, Input, Accepted, Refused}
+use Rattle.file.specs.File.{headerInputs, headerCount, headerReply, Body, Good, Bad, frame, recordOf, Records, Read, Stop, records}
+use Rattle.file.specs.File.{Input, Accepted, Refused}
 use Rattle.file.specs.declared.Reading.{Reading}
 
 -- a reply's number, 0 for none
@@ -76,9 +77,11 @@ fileReading count (Accepted S xs) = record { reply = 0; offset = 0; count = coun
 fileReading count (Refused r at) = record { reply = r; offset = at; count = count }
 
 -- of a file's records, how many are read before the first refusal
-abbrev pub fileCount : {A St : Type 0} → (version limit : ℕ) → (one : (S n : ℕ) → St → List ℕ → Body A) → (next : St → A → St) → (first : (S : ℕ) → St) → List ℕ → ℕ
+abbrev pub fileCount : {A St : Type 0} → (version limit : ℕ) → (one : (S n : ℕ) → St → List ℕ → Body A) → (next : St → A → St)
+    → (first : (S : ℕ) → St) → List ℕ → ℕ
 fileCount version limit one next first s =
-    cond (eqb (headerReply version limit s) 0) (readCount (one (headerInputs s) (headerCount s)) next (headerCount s) (first (headerInputs s)) (drop 6 s)) 0
+    cond (eqb (headerReply version limit s) 0)
+    (readCount (one (headerInputs s) (headerCount s)) next (headerCount s) (first (headerInputs s)) (drop 6 s)) 0
 
 -- the reading of a file, with the offsets of the records that are read stored
 pub record ReadFile {A : Type 0} (file : Input A) (count : ℕ) (s before after : List ℕ) (r : Reading) : Type 0 where

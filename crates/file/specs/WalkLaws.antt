@@ -8,7 +8,8 @@ use lib.ListN.{length, drop, set, length-drop}
 use lib.Seq.{sets, length-sets}
 use Rattle.file.specs.File.{Body, Good, Bad, frame, Records, Read, Stop, recordOf, records}
 use Rattle.file.specs.Shown.{readCount, readingOf, offsetsFrom, ReadRecords}
-use Rattle.file.specs.FileLaws.{reading-before, records-good, records-bad, count-good, count-bad, records-end, records-spare, offsets-length, Reached, reached-start, reached-next, reached-on, sets-snoc}
+use Rattle.file.specs.FileLaws.{reading-before, records-good, records-bad, count-good, count-bad, records-end, records-spare}
+use Rattle.file.specs.FileLaws.{offsets-length, Reached, reached-start, reached-next, reached-on, sets-snoc}
 use Rattle.file.specs.declared.Reading.{Reading}
 
 module _ {A St : Type 0} (one : St → List ℕ → Body A) (next : St → A → St) (s : List ℕ) (n : ℕ) (σ₀ : St) (off₀ : List ℕ) where
@@ -35,7 +36,8 @@ module _ {A St : Type 0} (one : St → List ℕ → Body A) (next : St → A →
         inside = h;
         few = omega arith;
         same = ap₂ (λ m c. readingOf (length s) m (records one next c σ₀ (drop 6 s)))
-            (ap (λ c. 0 + readCount one next c σ₀ (drop 6 s)) z ∙ (let y : 0 + readCount one next n σ₀ (drop 6 s) ≡ readCount one next n σ₀ (drop 6 s) = omega arith in y))
+            (ap (λ c. 0 + readCount one next c σ₀ (drop 6 s)) z
+            ∙ (let y : 0 + readCount one next n σ₀ (drop 6 s) ≡ readCount one next n σ₀ (drop 6 s) = omega arith in y))
             z;
         stored = refl;
         reached = reached-start s;
@@ -57,7 +59,8 @@ module _ {A St : Type 0} (one : St → List ℕ → Body A) (next : St → A →
         answer =
             sym (
             ap (λ c. from k c σ at) left
-            ∙ ap₂ (λ c p. readingOf (length s) (k + c) p) (count-bad one next s at (n - (k + 1)) σ r e) (records-bad one next s at (n - (k + 1)) σ r e)
+            ∙ ap₂ (λ c p. readingOf (length s) (k + c) p) (count-bad one next s at (n - (k + 1)) σ r e)
+            (records-bad one next s at (n - (k + 1)) σ r e)
             ∙ ap₂ (λ o c. record { reply = r; offset = o; count = c }) offset (let z : k + 0 ≡ k = omega arith in z))
             ∙ w .same;
         stored = w .stored;
@@ -82,7 +85,8 @@ module _ {A St : Type 0} (one : St → List ℕ → Body A) (next : St → A →
                 ∙ ap (λ m. readingOf (length s) m p) (let z : k + suc m ≡ k + 1 + m = omega arith in z))
                 ∙ w .same;
             stored =
-                ap₂ (λ o j. set o j at) (w .stored) (let z : k ≡ 0 + length (offsetsFrom k 6 (drop 6 s)) = omega (arith, offsets-length k 6 (drop 6 s)) in z)
+                ap₂ (λ o j. set o j at) (w .stored)
+                (let z : k ≡ 0 + length (offsetsFrom k 6 (drop 6 s)) = omega (arith, offsets-length k 6 (drop 6 s)) in z)
                 ∙ sym (sets-snoc off₀ 0 (offsetsFrom k 6 (drop 6 s)) at)
                 ∙ sym (ap (sets off₀ 0) (reached-next s k at (w .reached)));
             reached = reached-on s k at (w .reached);
@@ -92,7 +96,8 @@ module _ {A St : Type 0} (one : St → List ℕ → Body A) (next : St → A →
       all : k ≡ n
       all = omega (arith, w .few)
 
-      ended : (p : Records A) → records one next 0 σ (drop at s) ≡ p → readingOf (length s) (n + 0) p ≡ readingOf (length s) (readCount one next n σ₀ (drop 6 s)) (records one next n σ₀ (drop 6 s))
+      ended : (p : Records A) → records one next 0 σ (drop at s) ≡ p → readingOf (length s) (n + 0) p ≡ readingOf (length s)
+          (readCount one next n σ₀ (drop 6 s)) (records one next n σ₀ (drop 6 s))
       unfolding readCount
       ended p e =
           sym (ap₂ (λ j c. from j c σ at) all (let z : n - k ≡ 0 = omega arith in z) ∙ ap (readingOf (length s) (n + 0)) e)
@@ -100,7 +105,9 @@ module _ {A St : Type 0} (one : St → List ℕ → Body A) (next : St → A →
 
       pub done : at ≡ length s → Done off (record { reply = 0; offset = 0; count = n })
       done e = record {
-        answer = ap (λ c. record { reply = 0; offset = 0; count = c }) (let z : n ≡ n + 0 = omega arith in z) ∙ ended (Read []) (records-end one next s at σ (omega arith));
+        answer =
+            ap (λ c. record { reply = 0; offset = 0; count = c }) (let z : n ≡ n + 0 = omega arith in z)
+            ∙ ended (Read []) (records-end one next s at σ (omega arith));
         stored = w .stored ∙ ap (λ c. sets off₀ 0 (offsetsFrom c 6 (drop 6 s))) all;
       }
 

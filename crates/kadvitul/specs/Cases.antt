@@ -33,14 +33,17 @@ words = refl
 
 -- m3; any other length than 4 × S is 11; 8 comes before it
 runs : (runBytes smallRule 1 (0x00 ∷ 0x00 ∷ 0x00 ∷ 0x01 ∷ []) ≡ unsafeAt 8 1) × (runBytes smallRule 1 (0x00 ∷ []) ≡ refusal 11 0)
-    × (runBytes smallRule 1 (0x00 ∷ 0x00 ∷ 0x00 ∷ []) ≡ refusal 11 0) × (runBytes smallRule 1 (0x00 ∷ 0x00 ∷ 0x00 ∷ 0x01 ∷ 0x00 ∷ []) ≡ refusal 11 0)
+    × (runBytes smallRule 1 (0x00 ∷ 0x00 ∷ 0x00 ∷ []) ≡ refusal 11 0)
+    × (runBytes smallRule 1 (0x00 ∷ 0x00 ∷ 0x00 ∷ 0x01 ∷ 0x00 ∷ []) ≡ refusal 11 0)
     × (runBytes smallRule 256 [] ≡ refusal 8 0) × (runBytes [] 256 [] ≡ refusal 1 0)
 unfolding runBytes readTable readFile headerReply records recordOf frame instr parseFrom readToken operator fits run value unary binary
 runs = (refl, refl, refl, refl, refl, refl)
 
 -- m12
-judges : (judgeBytes Judged.example (0x00 ∷ 0x00 ∷ 0x00 ∷ 0x05 ∷ []) ≡ Judged.safe) × (judgeBytes Judged.example (0x00 ∷ 0x00 ∷ 0x00 ∷ 0x0A ∷ []) ≡ Judged.unsafeAt 1)
-    × (judgeBytes Judged.example (0x0A ∷ []) ≡ Judging.refusal 11 0) × (judgeBytes Judged.example (0x00 ∷ 0x00 ∷ 0x00 ∷ 0x05 ∷ 0x00 ∷ 0x00 ∷ 0x00 ∷ 0x05 ∷ []) ≡ Judging.refusal 11 0)
+judges : (judgeBytes Judged.example (0x00 ∷ 0x00 ∷ 0x00 ∷ 0x05 ∷ []) ≡ Judged.safe)
+    × (judgeBytes Judged.example (0x00 ∷ 0x00 ∷ 0x00 ∷ 0x0A ∷ []) ≡ Judged.unsafeAt 1)
+    × (judgeBytes Judged.example (0x0A ∷ []) ≡ Judging.refusal 11 0)
+    × (judgeBytes Judged.example (0x00 ∷ 0x00 ∷ 0x00 ∷ 0x05 ∷ 0x00 ∷ 0x00 ∷ 0x00 ∷ 0x05 ∷ []) ≡ Judging.refusal 11 0)
 unfolding judgeBytes readTrace readFile headerReply records recordOf frame stmt parseFrom readToken operator fits judge value unary binary
 judges = (refl, refl, refl, refl)
 
@@ -51,9 +54,11 @@ abbrev cutTable : List ℕ
 cutTable = 0x01 ∷ 0x00 ∷ 0x0B ∷ 0x01 ∷ 0x00 ∷ 0x01 ∷ 0x00 ∷ 0x04 ∷ 0x03 ∷ 0x02 ∷ 0x00 ∷ []
 
 -- the small rule from s0 = 2 under K = 3: unsafe at 2 × 5 + 3, after 2 back jumps
-run-numbers : (map (λ w. runNumber w (runBytes smallRule 3 (0x00 ∷ 0x00 ∷ 0x00 ∷ 0x02 ∷ []))) (RunReply ∷ RunOffset ∷ RunVerdict ∷ RunPlace ∷ RunBackJumps ∷ [])
+run-numbers : (map (λ w. runNumber w (runBytes smallRule 3 (0x00 ∷ 0x00 ∷ 0x00 ∷ 0x02 ∷ [])))
+    (RunReply ∷ RunOffset ∷ RunVerdict ∷ RunPlace ∷ RunBackJumps ∷ [])
     ≡ 0 ∷ 0 ∷ 1 ∷ 13 ∷ 2 ∷ [])
-    × (map (λ w. runNumber w (runBytes cutTable 3 [])) (RunReply ∷ RunOffset ∷ RunVerdict ∷ RunPlace ∷ RunBackJumps ∷ []) ≡ 5 ∷ 6 ∷ 0 ∷ 0 ∷ 0 ∷ [])
+    × (map (λ w. runNumber w (runBytes cutTable 3 [])) (RunReply ∷ RunOffset ∷ RunVerdict ∷ RunPlace ∷ RunBackJumps ∷ []) ≡ 5 ∷ 6 ∷ 0 ∷ 0
+    ∷ 0 ∷ [])
 unfolding runBytes readTable readFile headerReply records recordOf frame instr parseFrom readToken operator fits run value unary binary
 run-numbers = (refl, refl)
 
@@ -80,9 +85,11 @@ brokenTrace =
     ∷ 0x00 ∷ 0x06 ∷ 0x03 ∷ 0x00 ∷ 0x09 ∷ 0x03 ∷ 0x00 ∷ 0x02
     ∷ 0x00 ∷ 0x06 ∷ 0x03 ∷ 0x00 ∷ 0x09 ∷ 0x03 ∷ 0x00 ∷ 0x03 ∷ []
 
-judge-numbers : (map (λ w. judgeNumber w (judgeBytes threeTests (0x00 ∷ 0x00 ∷ 0x01 ∷ 0x00 ∷ 0x00 ∷ 0x00 ∷ 0x00 ∷ 0x00 ∷ 0x01 ∷ 0x00 ∷ 0x00 ∷ 0x00 ∷ [])))
+judge-numbers : (map (λ w. judgeNumber w (judgeBytes threeTests (0x00 ∷ 0x00 ∷ 0x01 ∷ 0x00 ∷ 0x00 ∷ 0x00 ∷ 0x00 ∷ 0x00 ∷ 0x01 ∷ 0x00 ∷ 0x00
+    ∷ 0x00 ∷ [])))
     (JudgeReply ∷ JudgeOffset ∷ JudgeVerdict ∷ JudgePlace ∷ []) ≡ 0 ∷ 0 ∷ 1 ∷ 11 ∷ [])
-    × (map (λ w. judgeNumber w (judgeBytes brokenTrace [])) (JudgeReply ∷ JudgeOffset ∷ JudgeVerdict ∷ JudgePlace ∷ []) ≡ 7 ∷ 14 ∷ 0 ∷ 0 ∷ [])
+    × (map (λ w. judgeNumber w (judgeBytes brokenTrace [])) (JudgeReply ∷ JudgeOffset ∷ JudgeVerdict ∷ JudgePlace ∷ []) ≡ 7 ∷ 14 ∷ 0 ∷ 0
+    ∷ [])
 unfolding judgeBytes readTrace readFile headerReply records recordOf frame stmt parseFrom readToken operator fits judge value unary binary
 judge-numbers = (refl, refl)
 
@@ -94,7 +101,9 @@ unfolding traceAnswer readTable readFile headerReply records recordOf frame inst
 trace-numbers = (refl, refl, refl)
 
 -- two Asserts are kept: 22 bytes that read s1 and s2
-slice-numbers : (map (λ w. sliceNumber w (sliceAnswer assumedLast 22)) (SliceReply ∷ SliceOffset ∷ SliceLength ∷ SliceMask ∷ SliceInputs ∷ []) ≡ 0 ∷ 0 ∷ 22 ∷ 6 ∷ 2 ∷ [])
-    × (map (λ w. sliceNumber w (sliceAnswer brokenTrace 22)) (SliceReply ∷ SliceOffset ∷ SliceLength ∷ SliceMask ∷ SliceInputs ∷ []) ≡ 7 ∷ 14 ∷ 0 ∷ 0 ∷ 0 ∷ [])
+slice-numbers : (map (λ w. sliceNumber w (sliceAnswer assumedLast 22))
+    (SliceReply ∷ SliceOffset ∷ SliceLength ∷ SliceMask ∷ SliceInputs ∷ []) ≡ 0 ∷ 0 ∷ 22 ∷ 6 ∷ 2 ∷ [])
+    × (map (λ w. sliceNumber w (sliceAnswer brokenTrace 22)) (SliceReply ∷ SliceOffset ∷ SliceLength ∷ SliceMask ∷ SliceInputs ∷ []) ≡ 7
+    ∷ 14 ∷ 0 ∷ 0 ∷ 0 ∷ [])
 unfolding sliceAnswer readTrace readFile headerReply records recordOf frame stmt parseFrom readToken operator fits slice encode ones
 slice-numbers = (refl, refl)

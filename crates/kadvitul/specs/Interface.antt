@@ -36,7 +36,8 @@ runBytes table K valuation = answeredBytes K valuation (readTable table)
 
 abbrev pub judgedBytes : (valuation : List ℕ) → Input Stmt → Judged.Answer
 judgedBytes valuation (Refused reply offset) = Judging.refusal reply offset
-judgedBytes valuation (Accepted S ts) = cond (eqb (length valuation) (4 * S)) (Judging.answerOf (judge ts (envOf (wordsOf S valuation)))) (Judging.refusal 11 0)
+judgedBytes valuation (Accepted S ts) =
+    cond (eqb (length valuation) (4 * S)) (Judging.answerOf (judge ts (envOf (wordsOf S valuation)))) (Judging.refusal 11 0)
 
 unfoldable pub judgeBytes : (trace valuation : List ℕ) → Judged.Answer
 judgeBytes trace valuation = judgedBytes valuation (readTrace trace)

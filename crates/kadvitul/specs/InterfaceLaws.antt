@@ -38,7 +38,8 @@ words-next c bs = ap (λ n. wordsOf n bs) (add-one c) ∙ go c bs
     go zero bs = refl
     go (suc c) bs =
         ap {B = List ℕ} (λ r. numberOf 4 bs ∷ r) (go c (drop 4 bs))
-        ∙ ap {B = List ℕ} (λ r. numberOf 4 bs ∷ wordsOf c (drop 4 bs) ++ numberOf 4 r ∷ []) (drop-drop (4 * c) 4 bs ∙ ap (λ n. drop n bs) (let e : 4 + 4 * c ≡ 4 * suc c = omega arith in e))
+        ∙ ap {B = List ℕ} (λ r. numberOf 4 bs ∷ wordsOf c (drop 4 bs) ++ numberOf 4 r ∷ []) (drop-drop (4 * c) 4 bs
+        ∙ ap (λ n. drop n bs) (let e : 4 + 4 * c ≡ 4 * suc c = omega arith in e))
 
 -- ---- running and judging from bytes is running and judging from words
 
@@ -51,9 +52,11 @@ as-words-right S valuation h = ap (λ b. cond b (wordsOf S valuation) (replicate
 
 -- as many as S exactly if there are 4 × S bytes
 pub as-words-length : (S : ℕ) (valuation : List ℕ) → (length (asWords S valuation) ≡ S) ↔ (length valuation ≡ 4 * S)
-as-words-length S valuation = (λ e. go (eqb (length valuation) (4 * S)) refl e, λ h. ap length (as-words-right S valuation h) ∙ words-length S valuation)
+as-words-length S valuation =
+    (λ e. go (eqb (length valuation) (4 * S)) refl e, λ h. ap length (as-words-right S valuation h) ∙ words-length S valuation)
   where
-    go : (b : Bool) → eqb (length valuation) (4 * S) ≡ b → length (cond b (wordsOf S valuation) (replicate (suc S) 0)) ≡ S → length valuation ≡ 4 * S
+    go : (b : Bool) → eqb (length valuation) (4 * S) ≡ b → length (cond b (wordsOf S valuation) (replicate (suc S) 0)) ≡ S
+        → length valuation ≡ 4 * S
     go true e h = eqb-true (length valuation) (4 * S) e
     go false e h = absurd (omega (arith, length-replicate {A = ℕ} (suc S) 0))
 
@@ -72,8 +75,10 @@ as-answered : {R : Type 0} (S : ℕ) (valuation : List ℕ) (answer : List ℕ �
 as-answered S valuation answer refused = go (eqb (length valuation) (4 * S))
   where
     go : (b : Bool) → cond b (answer (wordsOf S valuation)) refused
-        ≡ cond (eqb (length (cond b (wordsOf S valuation) (replicate (suc S) 0))) S) (answer (cond b (wordsOf S valuation) (replicate (suc S) 0))) refused
-    go true = sym (ap (λ b. cond b (answer (wordsOf S valuation)) refused) (eq-eqb (length (wordsOf S valuation)) S (words-length S valuation)))
+        ≡ cond (eqb (length (cond b (wordsOf S valuation) (replicate (suc S) 0))) S)
+        (answer (cond b (wordsOf S valuation) (replicate (suc S) 0))) refused
+    go true =
+        sym (ap (λ b. cond b (answer (wordsOf S valuation)) refused) (eq-eqb (length (wordsOf S valuation)) S (words-length S valuation)))
     go false =
         sym (ap (λ b. cond b (answer (replicate (suc S) 0)) refused)
         (ne-eqb (length (replicate {A = ℕ} (suc S) 0)) S (λ e. omega (arith, length-replicate {A = ℕ} (suc S) 0))))
@@ -102,7 +107,8 @@ judge-as-words s valuation = go (readTrace s) refl
 
 module _ {valuation words : List ℕ} {count : ℕ} (d : Decoded valuation words count) where
   same-words : {R : Type 0} (S : ℕ) → S ≤ 64 → (answer : List ℕ → R) (refused : R)
-      → cond (eqb (length (take count words)) S) (answer (take count words)) refused ≡ cond (eqb (length valuation) (4 * S)) (answer (wordsOf S valuation)) refused
+      → cond (eqb (length (take count words)) S) (answer (take count words)) refused ≡ cond (eqb (length valuation) (4 * S))
+      (answer (wordsOf S valuation)) refused
   same-words {R = R} S few answer refused = go (eqb count S) refl
     where
       long : length (take count words) ≡ count
@@ -112,7 +118,8 @@ module _ {valuation words : List ℕ} {count : ℕ} (d : Decoded valuation words
       other n e = elim (decLt 64 count) [ yes h ↦ d .none h S few e | no h ↦ n (omega (arith, d .whole (omega arith) .0)) ]
 
       go : (b : Bool) → eqb count S ≡ b
-          → cond (eqb (length (take count words)) S) (answer (take count words)) refused ≡ cond (eqb (length valuation) (4 * S)) (answer (wordsOf S valuation)) refused
+          → cond (eqb (length (take count words)) S) (answer (take count words)) refused ≡ cond (eqb (length valuation) (4 * S))
+          (answer (wordsOf S valuation)) refused
       go true e =
           let q = eqb-true count S e in
           let w = d .whole (omega arith) in
@@ -143,7 +150,8 @@ module _ {valuation words : List ℕ} {count : ℕ} (d : Decoded valuation words
       go (Refused r o) e = refl
       go (Accepted S ts) e =
           let f = file-is 129 4096 stmts s S ts e in
-          same-words S (omega (arith, header-is 129 4096 s (f .header) .inputs, f .inputs)) (λ ws. Judging.answerOf (judge ts (envOf ws))) (Judging.refusal 11 0)
+          same-words S (omega (arith, header-is 129 4096 s (f .header) .inputs, f .inputs)) (λ ws. Judging.answerOf (judge ts (envOf ws)))
+          (Judging.refusal 11 0)
 
 -- the words stored at the front of an array
 words-front : (xs : List ℕ) (c : ℕ) (bs : List ℕ) → c ≤ length xs → take c (sets xs 0 (wordsOf c bs)) ≡ wordsOf c bs
@@ -152,17 +160,20 @@ words-front xs c bs h =
     ∙ take-at (wordsOf c bs) (drop (0 + length (wordsOf c bs)) xs) c (words-length c bs)
 
 -- one word more
-pub words-store : (xs : List ℕ) (c : ℕ) (bs : List ℕ) (w : ℕ) → w ≡ numberOf 4 (drop (4 * c) bs) → set (sets xs 0 (wordsOf c bs)) c w ≡ sets xs 0 (wordsOf (c + 1) bs)
+pub words-store : (xs : List ℕ) (c : ℕ) (bs : List ℕ) (w : ℕ) → w ≡ numberOf 4 (drop (4 * c) bs)
+    → set (sets xs 0 (wordsOf c bs)) c w ≡ sets xs 0 (wordsOf (c + 1) bs)
 words-store xs c bs w h =
     ap₂ (λ k v. set (sets xs 0 (wordsOf c bs)) k v) (let e : c ≡ 0 + length (wordsOf c bs) = omega (arith, words-length c bs) in e) h
     ∙ sym (sets-snoc xs 0 (wordsOf c bs) (numberOf 4 (drop (4 * c) bs)))
     ∙ sym (ap (sets xs 0) (words-next c bs))
 
 -- what the code stores
-pub no-words : {valuation words : List ℕ} → length words ≡ 65 → ((c : ℕ) → c ≤ 64 → length valuation ≡ 4 * c → ⊥) → Decoded valuation words 65
+pub no-words : {valuation words : List ℕ} → length words ≡ 65 → ((c : ℕ) → c ≤ 64 → length valuation ≡ 4 * c → ⊥)
+    → Decoded valuation words 65
 no-words h n = record { room = h; most = omega arith; whole = λ l. absurd (omega arith); none = λ l. n }
 
-pub all-words : {valuation words : List ℕ} (xs : List ℕ) → length xs ≡ 65 → (c : ℕ) → words ≡ sets xs 0 (wordsOf c valuation) → c ≤ 64 → length valuation ≡ 4 * c
+pub all-words : {valuation words : List ℕ} (xs : List ℕ) → length xs ≡ 65 → (c : ℕ) → words ≡ sets xs 0 (wordsOf c valuation) → c ≤ 64
+    → length valuation ≡ 4 * c
     → Decoded valuation words c
 all-words {valuation} xs h c e l v = record {
   room = ap length e ∙ length-sets xs 0 (wordsOf c valuation) ∙ h;

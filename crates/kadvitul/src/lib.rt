@@ -23,8 +23,8 @@ fn decode(valuation: &[u8], count: usize, words: &mut [u32])
     }
 }
 
-// The words of a valuation, and how many there are. Bytes that are no whole number of words, or of more than 64, count as 65 words, which no
-// file has.
+// The words of a valuation, and how many there are. Bytes that are no whole number of words, or of more than 64, count as 65 words, which
+// no file has.
 fn words_in(valuation: &[u8], words: &mut [u32]) -> usize
     requires { ⌜ length (now words) ≡ 65 ⌝ }
     ensures { λ r. ⌜ Decoded (now (valuation .entry)) (now (words .exit)) r ⌝ }

@@ -76,7 +76,8 @@ module _ (m : ℕ) (e : m ≡ 65529) where
   not-decided : (n : ℕ) → n < 65537 → Decides n → ⊥
   not-decided n h d =
       refusals-differ
-      (sym whole ∙ sym (d .decides (input m) (input-bytes m)) ∙ sym (ap printed (take-append-le n (input m) (0 ∷ []) (omega (arith, table-length))))
+      (sym whole ∙ sym (d .decides (input m) (input-bytes m))
+      ∙ sym (ap printed (take-append-le n (input m) (0 ∷ []) (omega (arith, table-length))))
       ∙ d .decides (input m ++ 0 ∷ []) more-bytes ∙ longer)
 
 pub all-read : (n : ℕ) → Decides n → 65537 ≤ n
@@ -101,7 +102,8 @@ many-bytes : All Byte manyAsserts
 many-bytes = (omega arith, (omega arith, (omega arith, (omega arith, (omega arith, (omega arith, (omega arith, asserts-bytes 1024)))))))
 
 many-printed : length (printed manyAsserts) ≡ 75686
-unfolding printed decimal traceAnswer sliceAnswer readTable readFile headerReply records recordOf frame instr parseFrom readToken operator fits unwind places encode
+unfolding printed decimal traceAnswer sliceAnswer readTable readFile headerReply records recordOf frame instr parseFrom readToken operator
+    fits unwind places encode
     readTrace stmt slice
 many-printed = refl
 
@@ -113,4 +115,5 @@ long-text m h = omega (arith, h .holds manyAsserts many-bytes, many-printed)
 pub shows-all : (n m : ℕ) → Decides n → HoldsEvery m → (input : List ℕ) → All Byte input
     → showAnswer (take n input) m ≡ record { reply = 0; offset = 0; bytes = printed input }
 shows-all n m d h input o =
-    show-done (take n input) m (h .holds (take n input) (all-take Byte n input o)) ∙ ap (λ text. record { reply = 0; offset = 0; bytes = text }) (d .decides input o)
+    show-done (take n input) m (h .holds (take n input) (all-take Byte n input o))
+    ∙ ap (λ text. record { reply = 0; offset = 0; bytes = text }) (d .decides input o)

@@ -1,5 +1,5 @@
--- A number's digits are counted from the last to the first, and written so: what is counted and what is left make the count, and the digits still to be
--- stored in front of the present buffer make the number's digits on the first.
+-- A number's digits are counted from the last to the first, and written so: what is counted and what is left make the count, and the
+-- digits still to be stored in front of the present buffer make the number's digits on the first.
 use Prim.Native.Nat.{ℕ, zero, suc, _+_, _/_, _%_, _^_, _≤_, _<_}
 use native.Mathlib.Omega.{arith}
 use native.Mathlib.Nat.{div-lt-iff-lt-mul, zero-lt-suc, pow-suc}
@@ -37,7 +37,8 @@ count-left zero n = go (ltb n 10)
     go false = refl
 count-left (suc j) n = go (ltb n 10) refl (count-left j (n / 10))
   where
-    go : (x : Bool) → ltb n 10 ≡ x → digitCountUpTo (suc j) (n / 10) ≡ suc (left j (n / 10 / 10)) → cond x 1 (suc (digitCountUpTo (suc j) (n / 10))) ≡ suc (left (suc j) (n / 10))
+    go : (x : Bool) → ltb n 10 ≡ x → digitCountUpTo (suc j) (n / 10) ≡ suc (left j (n / 10 / 10))
+        → cond x 1 (suc (digitCountUpTo (suc j) (n / 10))) ≡ suc (left (suc j) (n / 10))
     go true e q = let h = ltb-true n 10 e in ap suc (sym (left-none (suc j) (n / 10) (omega arith)))
     go false e q = let h = ltb-false n 10 e in ap suc (q ∙ sym (left-some j (n / 10) (omega arith)))
 
@@ -119,6 +120,8 @@ module _ {v : ℕ} {out₀ : List ℕ} {at k : ℕ} {out : List ℕ} {i rest : �
 
   pub stored : i ≡ 0 → k ≡ digitCount v → Wrote out₀ at (decimal v) out (at + k)
   stored z e = record {
-    buffer = sym (splice-nil at out) ∙ ap (λ n. splice at (lastDigits n rest) out) (sym z) ∙ s .buffer ∙ ap (λ ds. splice at ds out₀) (sym (decimal-is v k e));
+    buffer =
+        sym (splice-nil at out) ∙ ap (λ n. splice at (lastDigits n rest) out) (sym z) ∙ s .buffer
+        ∙ ap (λ ds. splice at ds out₀) (sym (decimal-is v k e));
     next = omega (arith, ap length (decimal-is v k e), length-digits k v);
   }

@@ -1,5 +1,5 @@
--- The text of a trace's expression: what the token at a place is and its text, by its code, and the loop that writes the tokens. No token has more letters
--- than six for each of its bytes.
+-- The text of a trace's expression: what the token at a place is and its text, by its code, and the loop that writes the tokens. No token
+-- has more letters than six for each of its bytes.
 use Prim.Native.Nat.{ℕ, _+_, _*_, _^_, _≤_, _<_}
 use native.Mathlib.Omega.{arith}
 use mathlib.Core.Path.{_≡_, refl, sym, ap, _∙_}
@@ -90,7 +90,8 @@ module _ {e out₀ : List ℕ} {at : ℕ} {out : List ℕ} {i to : ℕ} (v : Put
       pub then : Putting e out₀ at out′ (i + m) to′
 
     pub put-on : {out′ : List ℕ} {m to′ : ℕ}
-        → (m ≡ sizeOf Trace (readToken Trace (drop i e))) × Wrote out to (readText (readToken Trace (drop i e))) out′ to′ × (to′ ≤ to + 6 * m) → PutOn out′ m to′
+        → (m ≡ sizeOf Trace (readToken Trace (drop i e))) × Wrote out to (readText (readToken Trace (drop i e))) out′ to′
+        × (to′ ≤ to + 6 * m) → PutOn out′ m to′
     put-on {out′} {m} {to′} (q, w, l) =
         let t = turn (v .rest) h m q in
         let left = exprText (tokens (t .then)) in

@@ -1,5 +1,5 @@
--- The line of the record at an offset, by its kind, and the loop over the records: what is written and the lines of the statements that are left make all
--- the lines. No line has more letters than six for each of its record's bytes.
+-- The line of the record at an offset, by its kind, and the loop over the records: what is written and the lines of the statements that
+-- are left make all the lines. No line has more letters than six for each of its record's bytes.
 use Prim.Native.Nat.{ℕ, suc, _+_, _-_, _*_, _^_, _≤_, _<_}
 use native.Mathlib.Omega.{arith}
 use mathlib.Core.Path.{_≡_, refl, sym, ap, ap₂, _∙_, subst}
@@ -47,7 +47,8 @@ module _ {s : List ℕ} {at : ℕ} (h : Held 4160 loose s at) {e : List ℕ} (q 
     assign-length = let z : exprStart (getD s (at + 2) 0) ≡ 7 = rw (eq-eqb (getD s (at + 2) 0) 1 k) in omega (arith, expr-length)
 
     pub assign-line : (p y : ℕ) → p ≡ numberOf 2 (drop (at + 3) s) → y ≡ numberOf 2 (drop (at + 5) s)
-        → decimal p ++ ascii " assign s" ++ decimal y ++ exprText (tokensOf (parse Trace (below 4160) e)) ++ ascii "\n" ≡ lineIn (held (drop at s))
+        → decimal p ++ ascii " assign s" ++ decimal y ++ exprText (tokensOf (parse Trace (below 4160) e)) ++ ascii "\n"
+        ≡ lineIn (held (drop at s))
     assign-line p y a b =
         ap (λ t. decimal p ++ ascii " assign s" ++ decimal y ++ exprText t ++ ascii "\n") tokens-are
         ∙ ap₂ (λ p y. decimal p ++ ascii " assign s" ++ decimal y ++ exprText (exprOf (h .statement)) ++ ascii "\n") a b
@@ -58,7 +59,8 @@ module _ {s : List ℕ} {at : ℕ} (h : Held 4160 loose s at) {e : List ℕ} (q 
     test-length = let z : exprStart (getD s (at + 2) 0) ≡ 5 = rw (ne-eqb (getD s (at + 2) 0) 1 k) in omega (arith, expr-length)
 
     pub test-line : (p : ℕ) → p ≡ numberOf 2 (drop (at + 3) s)
-        → decimal p ++ (ascii " " ++ ascii (kindName (kindOf (getD s (at + 2) 0)))) ++ exprText (tokensOf (parse Trace (below 4160) e)) ++ ascii "\n" ≡ lineIn (held (drop at s))
+        → decimal p ++ (ascii " " ++ ascii (kindName (kindOf (getD s (at + 2) 0)))) ++ exprText (tokensOf (parse Trace (below 4160) e))
+        ++ ascii "\n" ≡ lineIn (held (drop at s))
     test-line p a =
         let n = ascii (kindName (kindOf (getD s (at + 2) 0))) in
         ap (λ t. t ++ exprText (tokensOf (parse Trace (below 4160) e)) ++ ascii "\n") (sym (append-snoc (decimal p) 32 n))
@@ -88,7 +90,8 @@ pub record Listing (s : List ℕ) (n : ℕ) (out₀ : List ℕ) (to : ℕ) (out 
   pub count : n ≤ 4096
   pub little : next ≤ 6 * at
 
-pub listing-start : (s out : List ℕ) (n to : ℕ) → All Byte s → isAccepted (readTrace s) ≡ true → n ≡ headerCount s → to ≤ 36 → Listing s n out to out 0 6 to
+pub listing-start : (s out : List ℕ) (n to : ℕ) → All Byte s → isAccepted (readTrace s) ≡ true → n ≡ headerCount s → to ≤ 36
+    → Listing s n out to out 0 6 to
 unfolding readTrace
 listing-start s out n to o h q l = go (readTrace s) refl h
   where
@@ -100,7 +103,12 @@ listing-start s out n to o h q l = go (readTrace s) refl h
           S = S;
           σ = atFirst S;
           left = ts;
-          wide = record { higher = omega (arith, g .inputs, f .inputs); lower = omega arith; reads = λ x q. lt-ltb x 4160 (omega (arith, ltb-true x S q, g .inputs, f .inputs)) };
+          wide = record {
+            higher = omega (arith, g .inputs, f .inputs);
+            lower = omega arith;
+            reads = λ x q. lt-ltb x 4160
+                (omega (arith, ltb-true x S q, g .inputs, f .inputs));
+          };
           read = ap (λ m. stmtsFrom S m (atFirst S) (drop 6 s)) (let z : n - 0 ≡ headerCount s = omega arith in z) ∙ f .read;
           wrote = subst (λ xs. Ahead out to (stmtLines ts) out to (stmtLines xs)) (sym (ap listed e)) (ahead-start out to (stmtLines ts));
           inside = g .long;
@@ -130,10 +138,12 @@ module _ {s : List ℕ} {n : ℕ} {out₀ : List ℕ} {to : ℕ} {out : List ℕ
     pub listing-room : next + 6 * (2 + numberOf 2 (drop at s)) < 2 ^ 64
     listing-room = omega (arith, v .little, v .few, listing-inside)
 
-    pub listing-on : {out′ : List ℕ} {next′ : ℕ} → Wrote out next (lineIn (held (drop at s))) out′ next′ × (next′ ≤ next + 6 * (2 + numberOf 2 (drop at s)))
+    pub listing-on : {out′ : List ℕ} {next′ : ℕ} → Wrote out next (lineIn (held (drop at s))) out′ next′
+        × (next′ ≤ next + 6 * (2 + numberOf 2 (drop at s)))
         → (len : ℕ) → len ≡ numberOf 2 (drop at s) → Listing s n out₀ to out′ (k + 1) (at + (2 + len)) next′
     listing-on {out′} {next′} (w, l) len q =
-        let f : numberOf 2 (drop at s) ≡ frame (drop at s) = framed (drop at s) (record-good (stmt (v .S + 4096) (v .σ)) (drop at s) (following .head) (following .good) .0) .is in
+        let f : numberOf 2 (drop at s) ≡ frame (drop at s) = framed (drop at s)
+        (record-good (stmt (v .S + 4096) (v .σ)) (drop at s) (following .head) (following .good) .0) .is in
         record {
           S = v .S;
           σ = see (v .σ) (following .head);
@@ -173,7 +183,8 @@ told s h = go (readTrace s) refl h
     go (Accepted S ts) e h =
         let f = file-is 129 4096 stmts s S ts e in
         let g = header-is 129 4096 s (f .header) in
-        let k : length ts ≡ headerCount s = records-chain (stmt (S + 4096)) see s (λ σ a. Unit {0}) (λ σ l m a q. tt) (headerCount s) 6 (atFirst S) ts (f .read) .1 in
+        let k : length ts ≡ headerCount s = records-chain (stmt (S + 4096)) see s (λ σ a. Unit {0}) (λ σ l m a q. tt) (headerCount s) 6
+        (atFirst S) ts (f .read) .1 in
         record {
           long = g .long;
           inputs = g .inputs;
@@ -187,7 +198,8 @@ told s h = go (readTrace s) refl h
     go (Refused r f) e h = absurd (let z : _≡_ {A = ℕ} 0 1 = cc in omega arith)
 
 -- with the code's own numbers
-pub told-text : (s : List ℕ) → Told s → (S n : ℕ) → S ≡ headerInputs s → n ≡ headerCount s → firstLine S n ++ stmtLines (listed (readTrace s)) ≡ traceText (readTrace s)
+pub told-text : (s : List ℕ) → Told s → (S n : ℕ) → S ≡ headerInputs s → n ≡ headerCount s
+    → firstLine S n ++ stmtLines (listed (readTrace s)) ≡ traceText (readTrace s)
 told-text s t S n p q =
     ap (λ S. firstLine S n ++ stmtLines (listed (readTrace s))) p
     ∙ ap (λ n. firstLine (headerInputs s) n ++ stmtLines (listed (readTrace s))) q

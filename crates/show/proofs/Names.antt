@@ -14,7 +14,8 @@ use Rattle.write.specs.SpliceLaws.{wrote-as}
 use Rattle.show.specs.Shown.{nameOf}
 
 -- a name has at most five letters
-pub named : (code k : ℕ) (bs : List ℕ) {o p : List ℕ} {at m : ℕ} → code ≡ k → nameOf k ≡ bs → length bs ≤ 5 → Wrote o at bs p m → Wrote o at (nameOf code) p m × (m ≤ at + 5)
+pub named : (code k : ℕ) (bs : List ℕ) {o p : List ℕ} {at m : ℕ} → code ≡ k → nameOf k ≡ bs → length bs ≤ 5 → Wrote o at bs p m
+    → Wrote o at (nameOf code) p m × (m ≤ at + 5)
 named code k bs e q l w = (wrote-as (sym q ∙ ap nameOf (sym e)) w, omega (arith, w .next))
 
 -- neither a unary nor a binary operator

@@ -1,5 +1,5 @@
--- The printer's two buffers hold whole results. A trace that was written is accepted, so its slice fits where the trace fits, and is accepted too;
--- and the first bytes of a buffer, as many as were written, are those that were written.
+-- The printer's two buffers hold whole results. A trace that was written is accepted, so its slice fits where the trace fits, and is
+-- accepted too; and the first bytes of a buffer, as many as were written, are those that were written.
 use Prim.Native.Nat.{ℕ, _≤_, _<_}
 use native.Mathlib.Omega.{arith}
 use mathlib.Core.Path.{_≡_, refl, sym, ap, _∙_, subst}
@@ -60,7 +60,8 @@ kept s o h l = go (readTrace s) refl h
     go : (i : Input Stmt) → readTrace s ≡ i → isAccepted i ≡ true → Kept s
     go (Refused r at) q h = absurd (let z : _≡_ {A = ℕ} 0 1 = cc in omega arith)
     go (Accepted S ts) q h =
-        let d : sliceAnswer s 65535 ≡ sliceOf S (slice ts) = slice-done s S ts 65535 q (omega (arith, slice-fits S ts, ap length (encode-read s S ts o q))) in
+        let d : sliceAnswer s 65535 ≡ sliceOf S (slice ts) = slice-done s S ts 65535 q
+        (omega (arith, slice-fits S ts, ap length (encode-read s S ts o q))) in
         record {
           accepted = ap (λ a. isAccepted (readTrace (a .bytes))) d ∙ ap isAccepted (slice-accepted s S ts o q);
           text = ap (λ a. traceText (readTrace (a .bytes))) d ∙ sym (ap slicedText d);
@@ -114,7 +115,8 @@ module _ {text one one′ : List ℕ} {size : ℕ} (m : Wrote one 0 text one′ 
       let f : leb (length text) (length out) ≡ false = lt-leb (length text) (length out) (omega (arith, size-is)) in
       record { answer = e ∙ sym (ap (λ b. numbers (tested b)) f); buffer = sym (ap (λ b. over ((tested b) .bytes) out) f) }
 
-  pub written : {out′ : List ℕ} {n : ℕ} → size ≤ length out → Wrote out 0 text out′ n → Fitted text out out′ (record { reply = 0; offset = 0; length = n })
+  pub written : {out′ : List ℕ} {n : ℕ} → size ≤ length out → Wrote out 0 text out′ n
+      → Fitted text out out′ (record { reply = 0; offset = 0; length = n })
   written {out′} {n} h w =
       let t : leb (length text) (length out) ≡ true = le-leb (length text) (length out) (omega (arith, size-is)) in
       let q : n ≡ length text = w .next ∙ omega arith in

@@ -16,7 +16,8 @@ use Rattle.show.specs.Answer.{Shown, refusal, fitting, showAnswer, numbe
 
 -- the answer by the test of the room
 by-room : (P : Shown → Type 0) (text : List ℕ) (room : ℕ)
-    → (length text ≤ room → P (record { reply = 0; offset = 0; bytes = text })) → (room < length text → P (refusal 10 0)) → P (fitting room text)
+    → (length text ≤ room → P (record { reply = 0; offset = 0; bytes = text })) → (room < length text → P (refusal 10 0))
+    → P (fitting room text)
 by-room P text room enough short = go (leb (length text) room) refl
   where
     go : (b : Bool) → leb (length text) room ≡ b → P (cond b (record { reply = 0; offset = 0; bytes = text }) (refusal 10 0))
@@ -47,6 +48,8 @@ module _ (input out out′ : List ℕ) (r : Answer) (s : SliceShown input out ou
       (λ l e b. omega (arith, ap (λ a. a .length) e)) (s .answer) (s .buffer)
 
 -- a buffer that holds the text gets it
-pub show-done : (input : List ℕ) (room : ℕ) → length (printed input) ≤ room → showAnswer input room ≡ record { reply = 0; offset = 0; bytes = printed input }
+pub show-done : (input : List ℕ) (room : ℕ) → length (printed input) ≤ room
+    → showAnswer input room ≡ record { reply = 0; offset = 0; bytes = printed input }
 unfolding showAnswer
-show-done input room h = ap (λ b. cond b (record { reply = 0; offset = 0; bytes = printed input }) (refusal 10 0)) (le-leb (length (printed input)) room h)
+show-done input room h =
+    ap (λ b. cond b (record { reply = 0; offset = 0; bytes = printed input }) (refusal 10 0)) (le-leb (length (printed input)) room h)

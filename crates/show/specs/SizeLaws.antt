@@ -24,7 +24,8 @@ use Rattle.unwind.specs.Unwind.{unwind}
 use Rattle.slice.specs.Slice.{slice}
 use Rattle.slice.specs.SliceLaws.{encode-length, slice-fits}
 use Rattle.show.specs.Ascii.{ascii}
-use Rattle.show.specs.Text.{decimalUpTo, decimal, unaryName, binaryName, tokenText, exprText, kindName, stmtLine, stmtLines, firstLine, sliceText, refusalText, printed}
+use Rattle.show.specs.Text.{decimalUpTo, decimal, unaryName, binaryName, tokenText, exprText, kindName, stmtLine, stmtLines}
+use Rattle.show.specs.Text.{firstLine, sliceText, refusalText, printed}
 use Rattle.show.specs.TextLaws.{prints-refusal, prints-nine, prints-slice}
 
 -- ---- numbers
@@ -33,7 +34,8 @@ decimal-up-to : (k n : ℕ) → length (decimalUpTo k n) ≤ k
 decimal-up-to zero n = omega arith
 decimal-up-to (suc k) n = go (ltb n 10) (decimal-up-to k (n / 10))
   where
-    go : (x : Bool) → length (decimalUpTo k (n / 10)) ≤ k → length (cond x ((48 + n) ∷ []) (decimalUpTo k (n / 10) ++ (48 + n % 10) ∷ [])) ≤ suc k
+    go : (x : Bool) → length (decimalUpTo k (n / 10)) ≤ k → length (cond x ((48 + n) ∷ []) (decimalUpTo k (n / 10) ++ (48 + n % 10) ∷ []))
+        ≤ suc k
     go true l = omega arith
     go false l = omega (arith, length-append (decimalUpTo k (n / 10)) ((48 + n % 10) ∷ []))
 
@@ -48,7 +50,8 @@ pub two-digits : (n : ℕ) → n < 100 → length (decimal n) ≤ 2
 unfolding decimal
 two-digits n h = go (ltb n 10) (one-digit 8 (n / 10) (omega arith))
   where
-    go : (x : Bool) → length (decimalUpTo 9 (n / 10)) ≤ 1 → length (cond x ((48 + n) ∷ []) (decimalUpTo 9 (n / 10) ++ (48 + n % 10) ∷ [])) ≤ 2
+    go : (x : Bool) → length (decimalUpTo 9 (n / 10)) ≤ 1 → length (cond x ((48 + n) ∷ []) (decimalUpTo 9 (n / 10) ++ (48 + n % 10) ∷ []))
+        ≤ 2
     go true l = omega arith
     go false l = omega (arith, length-append (decimalUpTo 9 (n / 10)) ((48 + n % 10) ∷ []))
 
@@ -85,7 +88,13 @@ token-small Ite = omega arith
 expr-small : (e : List Token) → length (exprText e) ≤ 6 * length (exprBytes Trace e)
 expr-small [] = omega arith
 expr-small (t ∷ e) =
-    omega (arith, length-append (tokenText t) (exprText e), length-append (tokenBytes Trace t) (exprBytes Trace e), token-small t, expr-small e)
+    omega (
+      arith,
+      length-append (tokenText t) (exprText e),
+      length-append (tokenBytes Trace t) (exprBytes Trace e),
+      token-small t,
+      expr-small e,
+    )
 
 kind-small : (k : Kind) → length (ascii (kindName k)) ≤ 6
 kind-small Assume = omega arith
@@ -101,7 +110,16 @@ line-small (Assign p x e) =
     let f = length-append (bytesOf 2 (length (stmtBytes (Assign p x e)))) (stmtBytes (Assign p x e)) in
     let g = length-append (1 ∷ bytesOf 2 p ++ bytesOf 2 x) (exprBytes Trace e) in
     let h = length-append (bytesOf 2 p) (bytesOf 2 x) in
-    omega (arith, ten-digits p, ten-digits x, expr-small e, bytesOf-length 2 p, bytesOf-length 2 x, bytesOf-length 2 (length (stmtBytes (Assign p x e))))
+    omega (
+      arith,
+      ten-digits p,
+      ten-digits x,
+      expr-small e,
+      bytesOf-length 2 p,
+      bytesOf-length 2 x,
+      bytesOf-length 2
+          (length (stmtBytes (Assign p x e))),
+    )
 line-small (Test k p e) =
     let a = length-append (decimal p ++ ascii " " ++ ascii (kindName k) ++ exprText e) (ascii "\n") in
     let b = length-append (decimal p ++ ascii " " ++ ascii (kindName k)) (exprText e) in
@@ -114,7 +132,13 @@ line-small (Test k p e) =
 lines-small : (ts : List Stmt) → length (stmtLines ts) ≤ 6 * length (recordsBytes stmtBytes ts)
 lines-small [] = omega arith
 lines-small (t ∷ ts) =
-    omega (arith, length-append (stmtLine t) (stmtLines ts), length-append (recordBytes stmtBytes t) (recordsBytes stmtBytes ts), line-small t, lines-small ts)
+    omega (
+      arith,
+      length-append (stmtLine t) (stmtLines ts),
+      length-append (recordBytes stmtBytes t) (recordsBytes stmtBytes ts),
+      line-small t,
+      lines-small ts,
+    )
 
 -- ---- whole texts
 
@@ -148,9 +172,12 @@ printed-small (K ∷ b) o = go (readTable b) refl
     go (Refused r at) e = omega (arith, ap length (prints-refusal K b r at e), refusal-small r at)
     go (Accepted S is) e = limits (decLt 4096 (length (unwind Assume S is K))) (decLt 65535 (length (encodeTrace S (unwind Assume S is K))))
       where
-        limits : Dec (4096 < length (unwind Assume S is K)) → Dec (65535 < length (encodeTrace S (unwind Assume S is K))) → length (printed (K ∷ b)) ≤ 393210
-        limits (yes h) d = omega (arith, ap length (prints-nine K b S is e (omega (arith, o .0)) (λ l. omega (arith, l .0))), refusal-small 9 0)
-        limits (no h) (yes k) = omega (arith, ap length (prints-nine K b S is e (omega (arith, o .0)) (λ l. omega (arith, l .1))), refusal-small 9 0)
+        limits : Dec (4096 < length (unwind Assume S is K)) → Dec (65535 < length (encodeTrace S (unwind Assume S is K)))
+            → length (printed (K ∷ b)) ≤ 393210
+        limits (yes h) d =
+            omega (arith, ap length (prints-nine K b S is e (omega (arith, o .0)) (λ l. omega (arith, l .0))), refusal-small 9 0)
+        limits (no h) (yes k) =
+            omega (arith, ap length (prints-nine K b S is e (omega (arith, o .0)) (λ l. omega (arith, l .1))), refusal-small 9 0)
         limits (no h) (no k) =
             let ts = unwind Assume S is K in
             omega (

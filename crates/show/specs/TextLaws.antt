@@ -34,11 +34,13 @@ use Rattle.show.specs.Text.{refusalText, sliceText, traceText, slicedTex
 
 -- ---- what is printed of a table, by its reading
 
-pub prints-refusal : (K : ℕ) (b : List ℕ) (reply offset : ℕ) → readTable b ≡ Refused reply offset → printed (K ∷ b) ≡ refusalText reply offset
+pub prints-refusal : (K : ℕ) (b : List ℕ) (reply offset : ℕ) → readTable b ≡ Refused reply offset
+    → printed (K ∷ b) ≡ refusalText reply offset
 unfolding printed traceAnswer
 prints-refusal K b reply offset e =
     ap (λ x. tracedText (answered K 65535 x)) e
-    ∙ ap (λ x. cond x (slicedText (sliceAnswer [] 65535)) (refusalText reply offset)) (ne-eqb reply 0 (λ z. omega (arith, table-refused-positive b reply offset e)))
+    ∙ ap (λ x. cond x (slicedText (sliceAnswer [] 65535)) (refusalText reply offset))
+    (ne-eqb reply 0 (λ z. omega (arith, table-refused-positive b reply offset e)))
 
 module _ (K : ℕ) (b : List ℕ) (S : ℕ) (is : List Instr) (accepted : readTable b ≡ Accepted S is) (bound : K ≤ 255) where
   -- the trace's statements, and their bytes
@@ -50,7 +52,8 @@ module _ (K : ℕ) (b : List ℕ) (S : ℕ) (is : List Instr) (accepted : readTa
 
   -- by the tests for 9 and 10; no room above 65,535 decides
   traced : (room : ℕ) → 65535 ≤ room
-      → traceAnswer b K room ≡ cond (leb (length ts) 4096 && leb (length bytes) 65535) (record { reply = 0; offset = 0; bytes = bytes }) (Tracing.refusal 9 0)
+      → traceAnswer b K room ≡ cond (leb (length ts) 4096 && leb (length bytes) 65535) (record { reply = 0; offset = 0; bytes = bytes })
+      (Tracing.refusal 9 0)
   unfolding traceAnswer
   traced room h =
       ap (answered K room) accepted
@@ -58,41 +61,46 @@ module _ (K : ℕ) (b : List ℕ) (S : ℕ) (is : List Instr) (accepted : readTa
       ∙ go (leb (length ts) 4096) (leb (length bytes) 65535) refl
     where
       go : (x y : Bool) → leb (length bytes) 65535 ≡ y
-          → cond (x && y) (cond (leb (length bytes) room) (record { reply = 0; offset = 0; bytes = bytes }) (Tracing.refusal 10 0)) (Tracing.refusal 9 0)
+          → cond (x && y) (cond (leb (length bytes) room) (record { reply = 0; offset = 0; bytes = bytes }) (Tracing.refusal 10 0))
+          (Tracing.refusal 9 0)
           ≡ cond (x && y) (record { reply = 0; offset = 0; bytes = bytes }) (Tracing.refusal 9 0)
       go true true e =
-          ap (λ z. cond z (record { reply = 0; offset = 0; bytes = bytes }) (Tracing.refusal 10 0)) (le-leb (length bytes) room (omega (arith, leb-true (length bytes) 65535 e)))
+          ap (λ z. cond z (record { reply = 0; offset = 0; bytes = bytes }) (Tracing.refusal 10 0))
+          (le-leb (length bytes) room (omega (arith, leb-true (length bytes) 65535 e)))
       go true false e = refl
       go false y e = refl
 
   -- a trace over its limits is refused 9
-  pub prints-nine : ((length (unwind Assume S is K) ≤ 4096) × (length (encodeTrace S (unwind Assume S is K)) ≤ 65535) → ⊥) → printed (K ∷ b) ≡ refusalText 9 0
+  pub prints-nine : ((length (unwind Assume S is K) ≤ 4096) × (length (encodeTrace S (unwind Assume S is K)) ≤ 65535) → ⊥)
+      → printed (K ∷ b) ≡ refusalText 9 0
   unfolding printed
   prints-nine n =
       ap tracedText
       (traced 65535 (omega arith)
-      ∙ ap (λ x. cond x (record { reply = 0; offset = 0; bytes = bytes }) (Tracing.refusal 9 0)) (over-limit (leb (length ts) 4096) refl (leb (length bytes) 65535) refl))
+      ∙ ap (λ x. cond x (record { reply = 0; offset = 0; bytes = bytes }) (Tracing.refusal 9 0))
+      (over-limit (leb (length ts) 4096) refl (leb (length bytes) 65535) refl))
     where
       over-limit : (x : Bool) → leb (length ts) 4096 ≡ x → (y : Bool) → leb (length bytes) 65535 ≡ y → (x && y) ≡ false
       over-limit true e true f = absurd (n (leb-true (length ts) 4096 e, leb-true (length bytes) 65535 f))
       over-limit true e false f = refl
       over-limit false e y f = refl
 
-  module _ (o : All Byte b) (count : length (unwind Assume S is K) ≤ 4096) (total : length (encodeTrace S (unwind Assume S is K)) ≤ 65535) where
-    table : IsTable b S is
-    table = table-ok b S is o accepted
+  module _ (o : All Byte b) (count : length (unwind Assume S is K) ≤ 4096) (total : length (encodeTrace S (unwind Assume S is K)) ≤ 65535)
+    where
+      table : IsTable b S is
+      table = table-ok b S is o accepted
 
-    -- else the text is that of the slice of the unwound table
-    pub prints-slice : printed (K ∷ b) ≡ sliceText S (slice (unwind Assume S is K))
-    unfolding printed
-    prints-slice =
-        ap tracedText
-        (traced 65535 (omega arith)
-        ∙ ap (λ x. cond x (record { reply = 0; offset = 0; bytes = bytes }) (Tracing.refusal 9 0))
-        (both-and (leb (length ts) 4096) (leb (length bytes) 65535) (le-leb (length ts) 4096 count) (le-leb (length bytes) 65535 total)))
-        ∙ ap slicedText
-        (slice-done bytes S ts 65535 (unwind-accepted S is K (table .ok) (table .inputs) count total) (omega (arith, slice-fits S ts)))
-        ∙ ap traceText (slice-read S ts (table .inputs) count total (unwind-ok S is K (table .ok) (table .inputs) count))
+      -- else the text is that of the slice of the unwound table
+      pub prints-slice : printed (K ∷ b) ≡ sliceText S (slice (unwind Assume S is K))
+      unfolding printed
+      prints-slice =
+          ap tracedText
+          (traced 65535 (omega arith)
+          ∙ ap (λ x. cond x (record { reply = 0; offset = 0; bytes = bytes }) (Tracing.refusal 9 0))
+          (both-and (leb (length ts) 4096) (leb (length bytes) 65535) (le-leb (length ts) 4096 count) (le-leb (length bytes) 65535 total)))
+          ∙ ap slicedText
+          (slice-done bytes S ts 65535 (unwind-accepted S is K (table .ok) (table .inputs) count total) (omega (arith, slice-fits S ts)))
+          ∙ ap traceText (slice-read S ts (table .inputs) count total (unwind-ok S is K (table .ok) (table .inputs) count))
 
 -- ---- no room decides
 
@@ -109,7 +117,8 @@ trace-room b K room h = go (readTable b) refl
               ap (λ x. cond x (Tracing.traceOf room S (unwind Assume S is K)) (Tracing.refusal 8 0)) (lt-leb K 255 l)
               ∙ sym (ap (λ x. cond x (Tracing.traceOf 65535 S (unwind Assume S is K)) (Tracing.refusal 8 0)) (lt-leb K 255 l))
           | no l ↦
-              sym (ap (answered K room) e) ∙ traced K b S is e (omega arith) room h ∙ sym (traced K b S is e (omega arith) 65535 (omega arith)) ∙ ap (answered K 65535) e
+              sym (ap (answered K room) e) ∙ traced K b S is e (omega arith) room h
+              ∙ sym (traced K b S is e (omega arith) 65535 (omega arith)) ∙ ap (answered K 65535) e
         ]
 
 trace-short : (t : List ℕ) (S : ℕ) (us : List Stmt) → All Byte t → readTrace t ≡ Accepted S us → length t ≤ 65535
@@ -123,9 +132,12 @@ slice-room t room o h = go (readTrace t) refl
     go : (x : Input Stmt) → readTrace t ≡ x → Slicing.answered room x ≡ Slicing.answered 65535 x
     go (Refused r at) e = refl
     go (Accepted S us) e =
-        let small : length (encodeTrace S (slice us)) ≤ 65535 = omega (arith, slice-fits S us, ap length (encode-read t S us o e), trace-short t S us o e) in
-        ap (λ x. cond x (Slicing.sliceOf S (slice us)) (Slicing.refusal 10 0)) (le-leb (length (encodeTrace S (slice us))) room (omega arith))
-        ∙ sym (ap (λ x. cond x (Slicing.sliceOf S (slice us)) (Slicing.refusal 10 0)) (le-leb (length (encodeTrace S (slice us))) 65535 small))
+        let small : length (encodeTrace S (slice us)) ≤ 65535 =
+        omega (arith, slice-fits S us, ap length (encode-read t S us o e), trace-short t S us o e) in
+        ap (λ x. cond x (Slicing.sliceOf S (slice us)) (Slicing.refusal 10 0))
+        (le-leb (length (encodeTrace S (slice us))) room (omega arith))
+        ∙ sym (ap (λ x. cond x (Slicing.sliceOf S (slice us)) (Slicing.refusal 10 0))
+        (le-leb (length (encodeTrace S (slice us))) 65535 small))
 
 -- ---- input that is too long for any table
 
@@ -136,7 +148,8 @@ too-long b o h = file-refused 1 1024 instrs b (cond (eqb (getD b 0 0) 1) 3 2) re
   where
     reply : headerReply 1 1024 b ≡ cond (eqb (getD b 0 0) 1) 3 2
     reply =
-        ap (λ x. cond x (cond (eqb (getD b 0 0) 1) (cond (eqb (numberOf 2 (drop 1 b)) (length b)) (cond (leb (headerInputs b) 64 && leb (headerCount b) 1024) 0 4) 3) 2) 1)
+        ap (λ x. cond x (cond (eqb (getD b 0 0) 1)
+        (cond (eqb (numberOf 2 (drop 1 b)) (length b)) (cond (leb (headerInputs b) 64 && leb (headerCount b) 1024) 0 4) 3) 2) 1)
         (le-leb 6 (length b) (omega arith))
         ∙ ap (λ x. cond (eqb (getD b 0 0) 1) (cond x (cond (leb (headerInputs b) 64 && leb (headerCount b) 1024) 0 4) 3) 2)
         (ne-eqb (numberOf 2 (drop 1 b)) (length b) (λ e. omega (arith, number-lt 2 (drop 1 b) (all-drop Byte 1 b o))))

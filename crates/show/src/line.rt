@@ -17,8 +17,10 @@ ghost use Rattle.show.specs.Shown.{lineIn};
 
 // The line of the record at a place. No line has more letters than six for each of the record's bytes.
 fn put_line(trace: &[u8], at: usize, out: &mut [u8], to: usize) -> usize
-    requires { ⌜ (at < 65536) × (isGood (held (drop at (now trace))) ≡ true) × (to + 6 * (2 + numberOf 2 (drop at (now trace))) < 2 ^ 64) ⌝ }
-    ensures { λ r. ⌜ Wrote (now (out .entry)) to (lineIn (held (drop at (now (trace .entry))))) (now (out .exit)) r × (r ≤ to + 6 * (2 + numberOf 2 (drop at (now (trace .entry))))) ⌝ }
+    requires { ⌜ (at < 65536) × (isGood (held (drop at (now trace))) ≡ true)
+        × (to + 6 * (2 + numberOf 2 (drop at (now trace))) < 2 ^ 64) ⌝ }
+    ensures { λ r. ⌜ Wrote (now (out .entry)) to (lineIn (held (drop at (now (trace .entry))))) (now (out .exit)) r
+        × (r ≤ to + 6 * (2 + numberOf 2 (drop at (now (trace .entry))))) ⌝ }
 {
     let e = read::expr_at(trace, at);
     let kind = trace[at + 2];
@@ -51,7 +53,8 @@ fn put_first(inputs: usize, n: usize, out: &mut [u8]) -> usize
 // A line for each statement.
 fn put_lines(trace: &[u8], n: usize, out: &mut [u8], to: usize) -> usize
     requires { ⌜ (isAccepted (readTrace (now trace)) ≡ true) × (n ≡ headerCount (now trace)) × (to ≤ 36) ⌝ }
-    ensures { λ r. ⌜ Wrote (now (out .entry)) to (stmtLines (listed (readTrace (now (trace .entry))))) (now (out .exit)) r × (r ≤ 393210) ⌝ }
+    ensures { λ r. ⌜ Wrote (now (out .entry)) to (stmtLines (listed (readTrace (now (trace .entry))))) (now (out .exit)) r
+        × (r ≤ 393210) ⌝ }
 {
     let mut k: usize = 0;
     let mut at: usize = 6;

@@ -101,8 +101,10 @@ struct Put {
 
 // The token at a place of an expression, after a space. No token has more letters than six for each of its bytes.
 fn put_token(e: &[u8], i: usize, out: &mut [u8], at: usize) -> Put
-    requires { ⌜ (i < length (now e)) × Stands Trace 4160 (now e) i × (at + 6 * sizeOf Trace (readToken Trace (drop i (now e))) < 2 ^ 64) ⌝ }
-    ensures { λ r. ⌜ (r .size ≡ sizeOf Trace (readToken Trace (drop i (now (e .entry))))) × Wrote (now (out .entry)) at (readText (readToken Trace (drop i (now (e .entry))))) (now (out .exit)) (r .to) × (r .to ≤ at + 6 * r .size) ⌝ }
+    requires { ⌜ (i < length (now e)) × Stands Trace 4160 (now e) i
+        × (at + 6 * sizeOf Trace (readToken Trace (drop i (now e))) < 2 ^ 64) ⌝ }
+    ensures { λ r. ⌜ (r .size ≡ sizeOf Trace (readToken Trace (drop i (now (e .entry))))) × Wrote (now (out .entry)) at
+        (readText (readToken Trace (drop i (now (e .entry))))) (now (out .exit)) (r .to) × (r .to ≤ at + 6 * r .size) ⌝ }
 {
     let a = write::fit_byte(0x20, out, at);
     let code = e[i];
@@ -130,7 +132,8 @@ fn put_token(e: &[u8], i: usize, out: &mut [u8], at: usize) -> Put
 // A whole expression, each token after a space.
 pub fn put_tokens(e: &[u8], out: &mut [u8], at: usize) -> usize
     requires { ⌜ (isWhole (parse Trace (below 4160) (now e)) ≡ true) × (at + 6 * length (now e) < 2 ^ 64) ⌝ }
-    ensures { λ r. ⌜ Wrote (now (out .entry)) at (exprText (tokensOf (parse Trace (below 4160) (now (e .entry))))) (now (out .exit)) r × (r ≤ at + 6 * length (now (e .entry))) ⌝ }
+    ensures { λ r. ⌜ Wrote (now (out .entry)) at (exprText (tokensOf (parse Trace (below 4160) (now (e .entry))))) (now (out .exit)) r
+        × (r ≤ at + 6 * length (now (e .entry))) ⌝ }
 {
     let mut i: usize = 0;
     let mut to = at;

@@ -1,4 +1,5 @@
--- The answer to slicing, by the way that the code takes to it: the header refuses, a record refuses, the buffer is too short, the slice is written.
+-- The answer to slicing, by the way that the code takes to it: the header refuses, a record refuses, the buffer is too short, the slice is
+-- written.
 use Prim.Native.Nat.{ℕ, _+_, _≤_, _<_}
 use native.Mathlib.Omega.{arith}
 use mathlib.Core.Path.{_≡_, sym, ap, ap₂, _∙_}
@@ -61,18 +62,25 @@ module _ (s : List ℕ) (S : ℕ) (is : readTrace s ≡ Accepted S (listed (read
       pub records-room : to + length (recordsBytes stmtBytes (kept flags (listed (readTrace s)))) ≤ length p
       records-room = omega (arith, u .next, wrote-length u, w .size, ap (λ us. length (recordsBytes stmtBytes us)) (w .those))
 
-      bytes : header 129 (6 + k .size) S (k .count) ++ recordsBytes stmtBytes (kept flags (listed (readTrace s))) ≡ encodeTrace S (slice (listed (readTrace s)))
+      bytes : header 129 (6 + k .size) S (k .count) ++ recordsBytes stmtBytes (kept flags (listed (readTrace s))) ≡ encodeTrace S
+          (slice (listed (readTrace s)))
       unfolding encode
       bytes =
           ap (λ n. header 129 (6 + n) S (k .count) ++ recordsBytes stmtBytes (kept flags ts)) (w .size)
           ∙ ap₂ (λ n us. header 129 (6 + length (recordsBytes stmtBytes (slice ts))) S n ++ recordsBytes stmtBytes us) (w .count) (w .those)
 
-      pub slice-written : {out′ : List ℕ} {end : ℕ} → Wrote p to (recordsBytes stmtBytes (kept flags (listed (readTrace s)))) out′ end → (mask : ℕ) → mask ≡ maskOf S (inSet needed)
+      pub slice-written : {out′ : List ℕ} {end : ℕ} → Wrote p to (recordsBytes stmtBytes (kept flags (listed (readTrace s)))) out′ end
+          → (mask : ℕ) → mask ≡ maskOf S (inSet needed)
           → SliceWritten s out out′ (record { reply = 0; offset = 0; length = 6 + k .size; mask = mask; inputs = ones mask })
       slice-written v mask m =
           let a = sliced true (le-leb (length (encodeTrace S (slice ts))) (length out) (omega (arith, total))) in
-          let reads : mask ≡ inputMask S (slice (listed (readTrace s))) = m ∙ mask-same S (inSet needed) (λ x. readsTrace x (slice ts)) (λ x l. w .reads x) in
+          let reads : mask ≡ inputMask S (slice (listed (readTrace s))) = m ∙ mask-same S (inSet needed) (λ x. readsTrace x (slice ts))
+          (λ x l. w .reads x) in
           record {
-            answer = ap₂ {C = Answer} (λ n mask. record { reply = 0; offset = 0; length = n; mask = mask; inputs = ones mask }) (sym total) reads ∙ sym (ap numbers a);
-            buffer = (wrote-as bytes (u then v)) .buffer ∙ splice-over (encodeTrace S (slice ts)) out (omega (arith, total)) ∙ sym (ap (λ a. over (a .bytes) out) a);
+            answer =
+                ap₂ {C = Answer} (λ n mask. record { reply = 0; offset = 0; length = n; mask = mask; inputs = ones mask }) (sym total)
+                reads ∙ sym (ap numbers a);
+            buffer =
+                (wrote-as bytes (u then v)) .buffer ∙ splice-over (encodeTrace S (slice ts)) out (omega (arith, total))
+                ∙ sym (ap (λ a. over (a .bytes) out) a);
           }

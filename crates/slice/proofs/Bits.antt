@@ -13,7 +13,8 @@ use Rattle.slice.specs.Mask.{maskOf}
 
 module _ (mask s : ℕ) (b : Bool) where
   pub bit-set : s < 64 → mask < 2 ^ s → b ≡ true → bitOr mask (1 * 2 ^ s % 2 ^ 64) ≡ test b * 2 ^ s + mask
-  bit-set h k e = ap (bitOr mask) (shl-exact 1 s 64 (lit< tt) (omega arith)) ∙ or-shifted-r 1 s mask k ∙ ap (λ b. test b * 2 ^ s + mask) (sym e)
+  bit-set h k e =
+      ap (bitOr mask) (shl-exact 1 s 64 (lit< tt) (omega arith)) ∙ or-shifted-r 1 s mask k ∙ ap (λ b. test b * 2 ^ s + mask) (sym e)
 
   pub bit-clear : b ≡ false → mask ≡ test b * 2 ^ s + mask
   bit-clear e = sym (ap (λ b. test b * 2 ^ s + mask) e ∙ ap (λ x. x + mask) (zero-mul (2 ^ s)) ∙ zero-add mask)

@@ -42,25 +42,39 @@ pub record Copying (ts : List Stmt) (flags : List Bool) (out₀ : List ℕ) (to 
 pub copying-start : (ts : List Stmt) (flags : List Bool) (out : List ℕ) (to : ℕ) → Copying ts flags out to out 0 to
 copying-start ts flags out to = record { inside = omega arith; wrote = ahead-start _ _ _ }
 
-kept-first : (b : Bool) (t : Stmt) (us : List Stmt) → recordsBytes stmtBytes (cond b (t ∷ us) us) ≡ keptBytes b (Good t) ++ recordsBytes stmtBytes us
+kept-first : (b : Bool) (t : Stmt) (us : List Stmt) → recordsBytes stmtBytes (cond b (t ∷ us) us) ≡ keptBytes b (Good t) ++ recordsBytes
+    stmtBytes us
 kept-first true t us = refl
 kept-first false t us = refl
 
-module _ {ts : List Stmt} {flags : List Bool} {out₀ : List ℕ} {to : ℕ} {out : List ℕ} {k at : ℕ} (w : Copying ts flags out₀ to out k at) where
-  module _ (t : Stmt) (xs : List Stmt) (here : drop k ts ≡ t ∷ xs) (l : k < length flags) (b : Body Stmt) (g : b ≡ Good t) where
-    split : recordsBytes stmtBytes (kept (drop k flags) (drop k ts)) ≡ keptBytes (getD flags k false) b ++ recordsBytes stmtBytes (kept (drop (k + 1) flags) (drop (k + 1) ts))
-    split =
-        let rest : xs ≡ drop (k + 1) ts = sym (sym (drop-drop 1 k ts) ∙ ap (drop 1) here) in
-        ap₂ (λ fs us. recordsBytes stmtBytes (kept fs us)) (drop-cons flags k false l) here
-        ∙ kept-first (getD flags k false) t (kept (drop (suc k) flags) xs)
-        ∙ ap₂ (λ c us. keptBytes (getD flags k false) c ++ recordsBytes stmtBytes us) (sym g) (ap₂ kept (ap (λ j. drop j flags) (sym (add-one k))) rest)
+module _ {ts : List Stmt} {flags : List Bool} {out₀ : List ℕ} {to : ℕ} {out : List ℕ} {k at : ℕ} (w : Copying ts flags out₀ to out k at)
+  where
+    module _ (t : Stmt) (xs : List Stmt) (here : drop k ts ≡ t ∷ xs) (l : k < length flags) (b : Body Stmt) (g : b ≡ Good t) where
+      split : recordsBytes stmtBytes (kept (drop k flags) (drop k ts)) ≡ keptBytes (getD flags k false) b ++ recordsBytes stmtBytes
+          (kept (drop (k + 1) flags) (drop (k + 1) ts))
+      split =
+          let rest : xs ≡ drop (k + 1) ts = sym (sym (drop-drop 1 k ts) ∙ ap (drop 1) here) in
+          ap₂ (λ fs us. recordsBytes stmtBytes (kept fs us)) (drop-cons flags k false l) here
+          ∙ kept-first (getD flags k false) t (kept (drop (suc k) flags) xs)
+          ∙ ap₂ (λ c us. keptBytes (getD flags k false) c ++ recordsBytes stmtBytes us) (sym g)
+          (ap₂ kept (ap (λ j. drop j flags) (sym (add-one k))) rest)
 
-    pub copy-room : to + length (recordsBytes stmtBytes (kept flags ts)) ≤ length out₀ → at + length (keptBytes (getD flags k false) b) ≤ length out
-    copy-room r =
-        omega (arith, ahead-room (w .wrote) r, ap length split, length-append (keptBytes (getD flags k false) b) (recordsBytes stmtBytes (kept (drop (k + 1) flags) (drop (k + 1) ts))))
+      pub copy-room : to + length (recordsBytes stmtBytes (kept flags ts)) ≤ length out₀ → at + length (keptBytes (getD flags k false) b)
+          ≤ length out
+      copy-room r =
+          omega (
+            arith,
+            ahead-room (w .wrote) r,
+            ap length split,
+            length-append (keptBytes (getD flags k false) b)
+                (recordsBytes stmtBytes (kept (drop (k + 1) flags) (drop (k + 1) ts))),
+          )
 
-    pub copy-on : k < length ts → {out′ : List ℕ} {at′ : ℕ} → Wrote out at (keptBytes (getD flags k false) b) out′ at′ → Copying ts flags out₀ to out′ (k + 1) at′
-    copy-on h v = record { inside = omega arith; wrote = ahead-step (w .wrote) split v }
+      pub copy-on : k < length ts → {out′ : List ℕ} {at′ : ℕ} → Wrote out at (keptBytes (getD flags k false) b) out′ at′
+          → Copying ts flags out₀ to out′ (k + 1) at′
+      copy-on h v = record { inside = omega arith; wrote = ahead-step (w .wrote) split v }
 
-  pub all-copied : length ts ≤ k → Wrote out₀ to (recordsBytes stmtBytes (kept flags ts)) out at
-  all-copied h = ahead-end (w .wrote) (ap (λ us. recordsBytes stmtBytes (kept (drop k flags) us)) (drop-of-length-le ts {i = k} h) ∙ ap (recordsBytes stmtBytes) (kept-none (drop k flags)))
+    pub all-copied : length ts ≤ k → Wrote out₀ to (recordsBytes stmtBytes (kept flags ts)) out at
+    all-copied h =
+        ahead-end (w .wrote) (ap (λ us. recordsBytes stmtBytes (kept (drop k flags) us)) (drop-of-length-le ts {i = k} h)
+        ∙ ap (recordsBytes stmtBytes) (kept-none (drop k flags)))

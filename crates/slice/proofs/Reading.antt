@@ -33,7 +33,9 @@ in-marked marks k h x = go (eqb x k) refl
 
 -- the token at a place has m bytes, and what it reads is marked
 abbrev Marks : (e : List ℕ) (i m : ℕ) (needed needed′ : List Bool) → Type 0
-Marks e i m needed needed′ = (m ≡ sizeOf Trace (readToken Trace (drop i e))) × ((x : ℕ) → inSet needed′ x ≡ (readsRead x (readToken Trace (drop i e)) || inSet needed x))
+Marks e i m needed needed′ =
+    (m ≡ sizeOf Trace (readToken Trace (drop i e)))
+    × ((x : ℕ) → inSet needed′ x ≡ (readsRead x (readToken Trace (drop i e)) || inSet needed x))
 
 operator-reads : (x : ℕ) (t : Token) → IsOperator t → readsToken x t ≡ false
 operator-reads x (Const n) o = absurd o
@@ -49,7 +51,8 @@ module _ (e : List ℕ) (i : ℕ) (needed needed′ : List Bool) where
 
 module _ (e : List ℕ) (i : ℕ) (needed : List Bool) (h : i < length e) (st : Stands Trace (length needed) e i) where
   pub constant-marks : getD e i 0 ≡ 1 → Marks e i 5 needed needed
-  constant-marks c = marks-by e i needed needed _ (constant-stands Trace (below (length needed)) (st .0) e i h (st .1) c .is) 5 refl (λ x. refl)
+  constant-marks c =
+      marks-by e i needed needed _ (constant-stands Trace (below (length needed)) (st .0) e i h (st .1) c .is) 5 refl (λ x. refl)
 
   module _ (c : getD e i 0 ≡ 3) where
     symbol : Reads Trace (below (length needed)) (st .0) e i
@@ -69,7 +72,8 @@ module _ (e : List ℕ) (i : ℕ) (needed : List Bool) (h : i < length e) (st : 
   operator-marks a b =
       let k = operator-stands Trace (below (length needed)) (st .0) e i h (st .1) a b in
       let q : readToken Trace (drop i e) ≡ some (k .token) = k .is ∙ k .named in
-      marks-by e i needed needed (k .token) q 1 (k .one-byte ∙ ap (sizeOf Trace) q) (λ x. sym (ap (λ b. b || inSet needed x) (operator-reads x (k .token) (k .coded .1))))
+      marks-by e i needed needed (k .token) q 1 (k .one-byte ∙ ap (sizeOf Trace) q)
+      (λ x. sym (ap (λ b. b || inSet needed x) (operator-reads x (k .token) (k .coded .1))))
 
 -- ---- the loop
 
@@ -77,7 +81,8 @@ module _ (e : List ℕ) (i : ℕ) (needed : List Bool) (h : i < length e) (st : 
 pub record Marking (e : List ℕ) (needed₀ needed : List Bool) (i : ℕ) : Type 0 where
   pub long : length needed ≡ length needed₀
   pub rest : Rest Trace (length needed₀) e i
-  pub same : (x : ℕ) → (reads x (tokens rest) || inSet needed x) ≡ (reads x (tokensOf (parse Trace (below (length needed₀)) e)) || inSet needed₀ x)
+  pub same : (x : ℕ) → (reads x (tokens rest) || inSet needed x)
+      ≡ (reads x (tokensOf (parse Trace (below (length needed₀)) e)) || inSet needed₀ x)
 
 pub marking-start : (e : List ℕ) (needed : List Bool) → isWhole (parse Trace (below (length needed)) e) ≡ true → Marking e needed needed 0
 marking-start e needed h = record { long = refl; rest = rest-start Trace (length needed) e h; same = λ x. refl }
@@ -92,7 +97,8 @@ module _ {e : List ℕ} {needed₀ needed : List Bool} {i : ℕ} (v : Marking e 
     pub some-byte : 1 ≤ m
     pub then : Marking e needed₀ needed′ (i + m)
 
-  pub mark-on : i < length e → {needed′ : List Bool} {m : ℕ} → length needed′ ≡ length needed → Marks e i m needed needed′ → MarkOn needed′ m
+  pub mark-on : i < length e → {needed′ : List Bool} {m : ℕ} → length needed′ ≡ length needed → Marks e i m needed needed′
+      → MarkOn needed′ m
   mark-on h {needed′} {m} l (q, r) =
       let t = turn (v .rest) h m q in
       let left : ℕ → Bool = λ x. reads x (tokens (t .then)) in
@@ -109,5 +115,6 @@ module _ {e : List ℕ} {needed₀ needed : List Bool} {i : ℕ} (v : Marking e 
         };
       }
 
-  pub all-marked : length e ≤ i → (x : ℕ) → inSet needed x ≡ (reads x (tokensOf (parse Trace (below (length needed₀)) e)) || inSet needed₀ x)
+  pub all-marked : length e ≤ i → (x : ℕ) → inSet needed x
+      ≡ (reads x (tokensOf (parse Trace (below (length needed₀)) e)) || inSet needed₀ x)
   all-marked h x = sym (ap (λ ts. reads x ts || inSet needed x) (rest-end (v .rest) h)) ∙ v .same x

@@ -38,16 +38,19 @@ unkept asserts needed (Good (Test Bound p e)) h = refl
 unkept asserts needed (Bad r) h = refl
 
 module _ {s : List ℕ} {at : ℕ} (h : Held 4160 loose s at) where
-  assign-is : getD s (at + 2) 0 ≡ 1 → held (drop at s) ≡ Good (Assign (numberOf 2 (drop (at + 3) s)) (numberOf 2 (drop (at + 5) s)) (exprOf (h .statement)))
+  assign-is : getD s (at + 2) 0 ≡ 1 → held (drop at s)
+      ≡ Good (Assign (numberOf 2 (drop (at + 3) s)) (numberOf 2 (drop (at + 5) s)) (exprOf (h .statement)))
   assign-is k = h .is ∙ ap Good (h .assigns k .0)
 
-  test-is : (getD s (at + 2) 0 ≡ 1 → ⊥) → held (drop at s) ≡ Good (Test (kindOf (getD s (at + 2) 0)) (numberOf 2 (drop (at + 3) s)) (exprOf (h .statement)))
+  test-is : (getD s (at + 2) 0 ≡ 1 → ⊥) → held (drop at s)
+      ≡ Good (Test (kindOf (getD s (at + 2) 0)) (numberOf 2 (drop (at + 3) s)) (exprOf (h .statement)))
   test-is n = h .is ∙ ap Good (h .tests n .0)
 
   -- ---- whether it is kept
 
   module _ (asserts : Bool) (needed : ℕ → Bool) where
-    pub keeps-assign : getD s (at + 2) 0 ≡ 1 → (x : ℕ) → x ≡ numberOf 2 (drop (at + 5) s) → needed x ≡ keepIn asserts needed (held (drop at s))
+    pub keeps-assign : getD s (at + 2) 0 ≡ 1 → (x : ℕ) → x ≡ numberOf 2 (drop (at + 5) s)
+        → needed x ≡ keepIn asserts needed (held (drop at s))
     keeps-assign k x q = ap needed q ∙ sym (ap (keepIn asserts needed) (assign-is k))
 
     pub keeps-assert : getD s (at + 2) 0 ≡ 3 → true ≡ keepIn asserts needed (held (drop at s))
@@ -82,10 +85,12 @@ module _ {s : List ℕ} {at : ℕ} (h : Held 4160 loose s at) where
 
   -- ---- one step back
 
-  module _ (k : ℕ) (behind : Kept) (kept needed : List Bool) (b : Bool) (q : b ≡ keepIn (behind .asserts) (inSet needed) (held (drop at s))) where
+  module _ (k : ℕ) (behind : Kept) (kept needed : List Bool) (b : Bool)
+      (q : b ≡ keepIn (behind .asserts) (inSet needed) (held (drop at s))) where
     pub stepped-kept : b ≡ true → (needed′ : List Bool) → ((x : ℕ) → inSet needed′ x ≡ (readsIn x (held (drop at s)) || inSet needed x))
         → (a : Bool) → a ≡ (eqb (getD s (at + 2) 0) 3 || behind .asserts) → (len : ℕ) → len ≡ numberOf 2 (drop at s)
-        → Stepped (held (drop at s)) (2 + numberOf 2 (drop at s)) k behind kept needed (set kept k true) needed′ (record { asserts = a; count = behind .count + 1; size = behind .size + (2 + len) })
+        → Stepped (held (drop at s)) (2 + numberOf 2 (drop at s)) k behind kept needed (set kept k true) needed′
+        (record { asserts = a; count = behind .count + 1; size = behind .size + (2 + len) })
     stepped-kept y needed′ m a p len l = record {
       asserts = p ∙ sym (ap (λ c. c || behind .asserts) asserts-is);
       keeps = λ z. (refl, refl, ap (λ n. behind .size + (2 + n)) l, m);
@@ -105,16 +110,24 @@ module _ (s : List ℕ) (at : ℕ) (o : All Byte s) (t : Stmt) (g : held (drop a
   statement-length : length (stmtBytes t) ≡ numberOf 2 (drop at s)
   statement-length =
       ap length (stmt-same 64 loose (take (frame (drop at s)) (drop 2 (drop at s)))
-      t (all-take Byte (frame (drop at s)) (drop 2 (drop at s)) (all-drop Byte 2 (drop at s) (all-drop Byte at s o))) (read-body (stmt 4160 loose) s at t g))
+      t (all-take Byte (frame (drop at s)) (drop 2 (drop at s)) (all-drop Byte 2 (drop at s) (all-drop Byte at s o)))
+      (read-body (stmt 4160 loose) s at t g))
       ∙ body-length (stmt 4160 loose) s at t g
 
   pub record-length : length (recordBytes stmtBytes t) ≡ 2 + numberOf 2 (drop at s)
-  record-length = omega (arith, length-append (bytesOf 2 (length (stmtBytes t))) (stmtBytes t), bytesOf-length 2 (length (stmtBytes t)), statement-length)
+  record-length = omega (
+    arith,
+    length-append (bytesOf 2 (length (stmtBytes t))) (stmtBytes t),
+    bytesOf-length 2 (length (stmtBytes t)),
+    statement-length,
+  )
 
   pub record-part : {e : List ℕ} → e ≡ restOf s at 0 → e ≡ recordBytes stmtBytes t
   record-part q =
       let rest = drop (2 + frame (drop at s)) (drop at s) in
       q
-      ∙ ap₂ (λ m a. take m (drop a s)) (let n : 2 + numberOf 2 (drop at s) - 0 ≡ length (recordBytes stmtBytes t) = omega (arith, record-length) in n) (let z : at + 0 ≡ at = omega arith in z)
-      ∙ ap (take (length (recordBytes stmtBytes t))) (sym (record-same stmtBytes (stmt 4160) see (stmt-same 64) loose (drop at s) t (all-drop Byte at s o) g))
+      ∙ ap₂ (λ m a. take m (drop a s)) (let n : 2 + numberOf 2 (drop at s) - 0 ≡ length (recordBytes stmtBytes t) =
+      omega (arith, record-length) in n) (let z : at + 0 ≡ at = omega arith in z)
+      ∙ ap (take (length (recordBytes stmtBytes t)))
+      (sym (record-same stmtBytes (stmt 4160) see (stmt-same 64) loose (drop at s) t (all-drop Byte at s o) g))
       ∙ take-append-seam (recordBytes stmtBytes t) rest

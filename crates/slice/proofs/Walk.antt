@@ -23,7 +23,8 @@ use Rattle.slice.specs.Shown.{inSet, readsIn, keepStmt, keepIn, assertsI
 -- ---- the bytes of a trace
 
 -- an accepted trace is its header and its records, so these are fewer than 65,536 bytes
-pub records-small : (s : List ℕ) → All Byte s → isAccepted (readTrace s) ≡ true → length (recordsBytes stmtBytes (listed (readTrace s))) < 65536
+pub records-small : (s : List ℕ) → All Byte s → isAccepted (readTrace s) ≡ true → length (recordsBytes stmtBytes (listed (readTrace s)))
+    < 65536
 unfolding readTrace
 records-small s o h = go (readTrace s) refl h
   where
@@ -60,7 +61,8 @@ kept-none [] = refl
 kept-none (b ∷ flags) = refl
 
 module _ (ts : List Stmt) (kept needed : List Bool) (n : ℕ) (q : n ≡ length ts) where
-  pub walking-start : n ≤ length kept → ((x : ℕ) → inSet needed x ≡ false) → ((x : ℕ) → getD kept x false ≡ false) → Walking ts kept needed kept needed n none
+  pub walking-start : n ≤ length kept → ((x : ℕ) → inSet needed x ≡ false) → ((x : ℕ) → getD kept x false ≡ false)
+      → Walking ts kept needed kept needed n none
   unfolding slice
   walking-start l m f =
       let e : drop n ts ≡ [] = drop-of-length-le ts {i = n} (omega arith) in
@@ -77,7 +79,8 @@ module _ (ts : List Stmt) (kept needed : List Bool) (n : ℕ) (q : n ≡ length 
         those = ap (Shown.kept (drop n kept)) e ∙ kept-none (drop n kept) ∙ sym (ap slice e);
       }
 
-keep-same : (t : Stmt) (ts us : List Stmt) (asserts : Bool) (needed : ℕ → Bool) → asserts ≡ hasAssert ts → ((x : ℕ) → needed x ≡ readsTrace x us) → keepStmt asserts needed t ≡ keep t ts us
+keep-same : (t : Stmt) (ts us : List Stmt) (asserts : Bool) (needed : ℕ → Bool) → asserts ≡ hasAssert ts
+    → ((x : ℕ) → needed x ≡ readsTrace x us) → keepStmt asserts needed t ≡ keep t ts us
 keep-same (Assign p x e) ts us a n h r = r x
 keep-same (Test k p e) ts us a n h r = ap (λ b. isAssert k || b) h
 
@@ -89,15 +92,18 @@ reads-first : (x : ℕ) (t : Stmt) (ts : List Stmt) → readsTrace x (t ∷ ts) 
 reads-first x (Assign p y e) ts = refl
 reads-first x (Test k p e) ts = refl
 
-module _ {ts : List Stmt} {kept₀ needed₀ kept needed : List Bool} {k : ℕ} {behind : Kept} (w : Walking ts kept₀ needed₀ kept needed k behind) where
+module _ {ts : List Stmt} {kept₀ needed₀ kept needed : List Bool} {k : ℕ} {behind : Kept}
+    (w : Walking ts kept₀ needed₀ kept needed k behind) where
   pub few-behind : length ts ≤ 4096 → behind .count ≤ 4096
   few-behind l = omega (arith, w .count, slice-shorter (drop k ts), length-drop k ts)
 
   pub small-behind : length (recordsBytes stmtBytes ts) < 65536 → behind .size < 65536
   small-behind l = omega (arith, w .size, slice-smaller (drop k ts), records-from k ts)
 
-  module _ (h : 0 < k) (t : Stmt) (xs : List Stmt) (here : drop (k - 1) ts ≡ t ∷ xs) (size : ℕ) (sized : length (recordBytes stmtBytes t) ≡ size)
-      (b : Body Stmt) (g : b ≡ Good t) {kept′ needed′ : List Bool} {r : Kept} (went : Stepped b size (k - 1) behind kept needed kept′ needed′ r)
+  module _ (h : 0 < k) (t : Stmt) (xs : List Stmt) (here : drop (k - 1) ts ≡ t ∷ xs) (size : ℕ)
+      (sized : length (recordBytes stmtBytes t) ≡ size)
+      (b : Body Stmt) (g : b ≡ Good t) {kept′ needed′ : List Bool} {r : Kept}
+      (went : Stepped b size (k - 1) behind kept needed kept′ needed′ r)
       (kept-kept : length kept′ ≡ length kept) (needed-kept : length needed′ ≡ length needed) where
     st : Stepped (Good t) size (k - 1) behind kept needed kept′ needed′ r
     st = subst (λ b. Stepped b size (k - 1) behind kept needed kept′ needed′ r) g went
@@ -111,11 +117,14 @@ module _ {ts : List Stmt} {kept₀ needed₀ kept needed : List Bool} {k : ℕ} 
     flag : (flags : List Bool) → length flags ≡ length kept → (b : Bool) → getD flags (k - 1) false ≡ b → drop k flags ≡ drop k kept
         → Shown.kept (drop (k - 1) flags) (t ∷ xs) ≡ cond b (t ∷ slice xs) (slice xs)
     flag flags l b e same =
-        ap (λ fs. Shown.kept fs (t ∷ xs)) (drop-cons flags (k - 1) false (omega (arith, w .inside, w .room)) ∙ ap₂ {C = List Bool} (λ b fs. b ∷ fs) e (ap (λ j. drop j flags) next ∙ same))
+        ap (λ fs. Shown.kept fs (t ∷ xs)) (drop-cons flags (k - 1) false (omega (arith, w .inside, w .room))
+        ∙ ap₂ {C = List Bool} (λ b fs. b ∷ fs) e (ap (λ j. drop j flags) next ∙ same))
         ∙ ap (λ us. cond b (t ∷ us) us) (ap (Shown.kept (drop k kept)) behind-is ∙ w .those ∙ ap slice (sym behind-is))
 
-    on-as : (us : List Stmt) → slice (t ∷ xs) ≡ us → ((i : ℕ) → i < k - 1 → getD kept′ i false ≡ false) → r .count ≡ length us → r .size ≡ length (recordsBytes stmtBytes us)
-        → ((x : ℕ) → inSet needed′ x ≡ readsTrace x us) → Shown.kept (drop (k - 1) kept′) (t ∷ xs) ≡ us → Walking ts kept₀ needed₀ kept′ needed′ (k - 1) r
+    on-as : (us : List Stmt) → slice (t ∷ xs) ≡ us → ((i : ℕ) → i < k - 1 → getD kept′ i false ≡ false) → r .count ≡ length us
+        → r .size ≡ length (recordsBytes stmtBytes us)
+        → ((x : ℕ) → inSet needed′ x ≡ readsTrace x us) → Shown.kept (drop (k - 1) kept′) (t ∷ xs) ≡ us
+        → Walking ts kept₀ needed₀ kept′ needed′ (k - 1) r
     on-as us e f c z m q =
         let e : slice (drop (k - 1) ts) ≡ us = ap slice here ∙ e in
         record {
@@ -124,7 +133,9 @@ module _ {ts : List Stmt} {kept₀ needed₀ kept needed : List Bool} {k : ℕ} 
           needed-long = needed-kept ∙ w .needed-long;
           room = omega (arith, w .room);
           clear = f;
-          asserts = st .asserts ∙ ap (λ b. assertsIn (Good t) || b) (w .asserts ∙ ap hasAssert (sym behind-is)) ∙ sym (asserts-first t xs) ∙ sym (ap hasAssert here);
+          asserts =
+              st .asserts ∙ ap (λ b. assertsIn (Good t) || b) (w .asserts ∙ ap hasAssert (sym behind-is)) ∙ sym (asserts-first t xs)
+              ∙ sym (ap hasAssert here);
           count = c ∙ sym (ap length e);
           size = z ∙ sym (ap (λ us. length (recordsBytes stmtBytes us)) e);
           reads = λ x. m x ∙ sym (ap (readsTrace x) e);
@@ -158,7 +169,9 @@ module _ {ts : List Stmt} {kept₀ needed₀ kept needed : List Bool} {k : ℕ} 
             (omega (arith, c, count-is))
             (omega (arith, z, size-is, sized, length-append (recordBytes stmtBytes t) (recordsBytes stmtBytes (slice xs))))
             (λ x. m x ∙ ap (λ b. readsIn x (Good t) || b) (reads-is x) ∙ sym (reads-first x t (slice xs)))
-            (flag kept′ kept-kept true (ap (λ fs. getD fs (k - 1) false) f ∙ getD-set-same kept (k - 1) true false (omega (arith, w .inside, w .room))) (ap (drop k) f ∙ drop-set-lt k kept (k - 1) true (omega arith)))
+            (flag kept′ kept-kept true (ap (λ fs. getD fs (k - 1) false) f
+            ∙ getD-set-same kept (k - 1) true false (omega (arith, w .inside, w .room)))
+            (ap (drop k) f ∙ drop-set-lt k kept (k - 1) true (omega arith)))
         go false e =
             let (f, c, z, m) = st .drops e in
             on-as (slice xs) (sliced false e) (λ i l. ap (λ fs. getD fs i false) f ∙ w .clear i (omega arith))
@@ -167,6 +180,8 @@ module _ {ts : List Stmt} {kept₀ needed₀ kept needed : List Bool} {k : ℕ} 
             (λ x. ap (λ fs. inSet fs x) m ∙ reads-is x)
             (flag kept′ kept-kept false (ap (λ fs. getD fs (k - 1) false) f ∙ w .clear (k - 1) (omega arith)) (ap (drop k) f))
 
-pub walked : {ts : List Stmt} {kept₀ needed₀ kept needed : List Bool} {k : ℕ} {behind : Kept} → Walking ts kept₀ needed₀ kept needed k behind → k ≤ 0 → WalkedBack ts kept needed behind
-walked {ts} {kept₀} {needed₀} {kept} {needed} {k} {behind} w h = let v = subst (λ k. Walking ts kept₀ needed₀ kept needed k behind) (let e : k ≡ 0 = omega arith in e) w in
+pub walked : {ts : List Stmt} {kept₀ needed₀ kept needed : List Bool} {k : ℕ} {behind : Kept}
+    → Walking ts kept₀ needed₀ kept needed k behind → k ≤ 0 → WalkedBack ts kept needed behind
+walked {ts} {kept₀} {needed₀} {kept} {needed} {k} {behind} w h = let v = subst (λ k. Walking ts kept₀ needed₀ kept needed k behind)
+    (let e : k ≡ 0 = omega arith in e) w in
     record { those = v .those; count = v .count; size = v .size; reads = v .reads }

@@ -75,8 +75,10 @@ tests = (refl, refl, refl)
 
 -- keep an Assign if its symbol is needed: a kept Assert, Assume or Assign reads it, and not only a dropped Assume or Assign
 assigns : (sliceAnswer (traceOf 2 (assign 0 3 2 ++ assert 1 3)) 255 ≡ sliced (traceOf 2 (assign 0 3 2 ++ assert 1 3)) 4 1)
-    × (sliceAnswer (traceOf 3 (assign 0 3 2 ++ assume 1 3 ++ assert 2 1)) 255 ≡ sliced (traceOf 3 (assign 0 3 2 ++ assume 1 3 ++ assert 2 1)) 6 2)
-    × (sliceAnswer (traceOf 3 (assign 0 3 2 ++ assign 1 4 3 ++ assert 2 4)) 255 ≡ sliced (traceOf 3 (assign 0 3 2 ++ assign 1 4 3 ++ assert 2 4)) 4 1)
+    × (sliceAnswer (traceOf 3 (assign 0 3 2 ++ assume 1 3 ++ assert 2 1)) 255
+    ≡ sliced (traceOf 3 (assign 0 3 2 ++ assume 1 3 ++ assert 2 1)) 6 2)
+    × (sliceAnswer (traceOf 3 (assign 0 3 2 ++ assign 1 4 3 ++ assert 2 4)) 255
+    ≡ sliced (traceOf 3 (assign 0 3 2 ++ assign 1 4 3 ++ assert 2 4)) 4 1)
     × (sliceAnswer (traceOf 3 (assign 0 3 2 ++ assert 1 1 ++ assume 2 3)) 255 ≡ sliced (traceOf 1 (assert 1 1)) 2 1)
     × (sliceAnswer (traceOf 3 (assign 0 3 2 ++ assign 1 4 3 ++ assert 2 1)) 255 ≡ sliced (traceOf 1 (assert 2 1)) 2 1)
 unfolding sliceAnswer readTrace readFile headerReply records recordOf frame stmt parseFrom readToken operator fits slice encode ones

@@ -46,7 +46,11 @@ test-odd false = refl
 pub mask-bit : (n : ℕ) (f : ℕ → Bool) (s : ℕ) → s < n → bit s (maskOf n f) ≡ test (f s)
 mask-bit zero f s h = absurd (omega arith)
 mask-bit (suc n) f s h =
-    elim (decLt s n) [ yes b ↦ bit-below (test (f n)) n s (maskOf n f) b ∙ mask-bit n f s b | no b ↦ highest (let q : s ≡ n = omega arith in q) ]
+    elim (decLt s n) [
+      | yes b ↦ bit-below (test (f n)) n s (maskOf n f) b
+          ∙ mask-bit n f s b
+      | no b ↦ highest (let q : s ≡ n = omega arith in q)
+    ]
   where
     highest : s ≡ n → bit s (maskOf (suc n) f) ≡ test (f s)
     highest q =

@@ -45,11 +45,14 @@ assertsIn (Bad r) = false
 -- ---- the walk back
 
 -- the statement k, which is b, of whose bytes its record has `size`
-pub record Stepped (b : Body Stmt) (size k : ℕ) (behind : Kept) (kept : List Bool) (needed : List Bool) (kept′ : List Bool) (needed′ : List Bool) (r : Kept) : Type 0 where
+pub record Stepped (b : Body Stmt) (size k : ℕ) (behind : Kept) (kept : List Bool) (needed : List Bool) (kept′ : List Bool)
+    (needed′ : List Bool) (r : Kept) : Type 0 where
   pub asserts : r .asserts ≡ (assertsIn b || behind .asserts)
-  pub keeps : (keepIn (behind .asserts) (inSet needed) b ≡ true) → (kept′ ≡ set kept k true) × (r .count ≡ behind .count + 1) × (r .size ≡ behind .size + size)
+  pub keeps : (keepIn (behind .asserts) (inSet needed) b ≡ true) → (kept′ ≡ set kept k true) × (r .count ≡ behind .count + 1)
+      × (r .size ≡ behind .size + size)
       × ((x : ℕ) → inSet needed′ x ≡ (readsIn x b || inSet needed x))
-  pub drops : (keepIn (behind .asserts) (inSet needed) b ≡ false) → (kept′ ≡ kept) × (r .count ≡ behind .count) × (r .size ≡ behind .size) × (needed′ ≡ needed)
+  pub drops : (keepIn (behind .asserts) (inSet needed) b ≡ false) → (kept′ ≡ kept) × (r .count ≡ behind .count) × (r .size ≡ behind .size)
+      × (needed′ ≡ needed)
 
 -- those of the statements whose entries are set
 abbrev pub kept : (flags : List Bool) → List Stmt → List Stmt

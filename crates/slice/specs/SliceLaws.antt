@@ -87,15 +87,18 @@ agree-unread ts σ τ x v n h y q = go (eqb y x) refl
 -- ---- verdict and place
 
 module _ (ts : List Stmt) (ih : (σ τ : Env) → Agree (slice ts) σ τ → Alike (judge ts σ) (judge (slice ts) τ)) (σ τ : Env) where
-  assign-alike : (p x : ℕ) (e : List Token) (b : Bool) → readsTrace x (slice ts) ≡ b → Agree (cond b (Assign p x e ∷ slice ts) (slice ts)) σ τ
+  assign-alike : (p x : ℕ) (e : List Token) (b : Bool) → readsTrace x (slice ts) ≡ b
+      → Agree (cond b (Assign p x e ∷ slice ts) (slice ts)) σ τ
       → Alike (judge (Assign p x e ∷ ts) σ) (judge (cond b (Assign p x e ∷ slice ts) (slice ts)) τ)
   unfolding judge
   assign-alike p x e true k h =
       rw (value-agree σ τ e (λ y r. h y (or-left _ (readsTrace y (slice ts)) r)))
-      (ih (update σ x (value τ e)) (update τ x (value τ e)) (agree-update (slice ts) σ τ x (value τ e) (λ y r. h y (or-right (reads y e) _ r))))
+      (ih (update σ x (value τ e)) (update τ x (value τ e))
+      (agree-update (slice ts) σ τ x (value τ e) (λ y r. h y (or-right (reads y e) _ r))))
   assign-alike p x e false k h = ih (update σ x (value σ e)) τ (agree-unread (slice ts) σ τ x (value σ e) k h)
 
-  test-alike : (k : Kind) (p : ℕ) (e : List Token) (b : Bool) → (isAssert k || hasAssert ts) ≡ b → Agree (cond b (Test k p e ∷ slice ts) (slice ts)) σ τ
+  test-alike : (k : Kind) (p : ℕ) (e : List Token) (b : Bool) → (isAssert k || hasAssert ts) ≡ b
+      → Agree (cond b (Test k p e ∷ slice ts) (slice ts)) σ τ
       → Alike (judge (Test k p e ∷ ts) σ) (judge (cond b (Test k p e ∷ slice ts) (slice ts)) τ)
   unfolding judge
   test-alike k p e true q h =
@@ -163,21 +166,33 @@ module _ (ts : List Stmt) (σ τ : Seen) (p x : ℕ) (e : List Token) where
   covers-assign : Covers (Assign p x e ∷ ts) σ τ → Covers ts (see σ (Assign p x e)) (see τ (Assign p x e))
   covers-assign c = record {
     lower = omega arith;
-    readable = λ y r k. or-cases (eqb y x) (σ .readable y) (or-left _ (τ .readable y)) (λ q. or-right (eqb y x) _ (c .readable y (or-right (reads y e) _ r) q)) k;
+    readable =
+        λ y r k. or-cases (eqb y x) (σ .readable y) (or-left _ (τ .readable y))
+        (λ q. or-right (eqb y x) _ (c .readable y (or-right (reads y e) _ r) q)) k;
   }
 
   covers-unread : readsTrace x ts ≡ false → σ .least ≤ x → Covers ts σ τ → Covers ts (see σ (Assign p x e)) τ
   covers-unread n l c = record {
     lower = omega (arith, c .lower);
     readable = λ y r k.
-        or-cases (eqb y x) (σ .readable y) (λ q. let z : _≡_ {A = Bool} true false = sym r ∙ ap (λ k. readsTrace k ts) (eqb-true y x q) ∙ n in cc) (c .readable y r) k;
+        or-cases (eqb y x) (σ .readable y) (λ q. let z : _≡_ {A = Bool} true false = sym r ∙ ap (λ k. readsTrace k ts) (eqb-true y x q)
+        ∙ n in cc) (c .readable y r) k;
   }
 
 module _ (S : ℕ) (ts : List Stmt) (ih : (σ τ : Seen) → Covers (slice ts) σ τ → StmtsOk S σ ts → StmtsOk S τ (slice ts)) (σ τ : Seen) where
   assign-ok : (p x : ℕ) (e : List Token) (b : Bool) → readsTrace x (slice ts) ≡ b → Covers (cond b (Assign p x e ∷ slice ts) (slice ts)) σ τ
       → StmtsOk S σ (Assign p x e ∷ ts) → StmtsOk S τ (cond b (Assign p x e ∷ slice ts) (slice ts))
   assign-ok p x e true n c ((a, l, m, o), os) = (
-    (a, omega (arith, c .lower), m, (ok-cover (σ .readable) (τ .readable) 17 0 1 e (λ y r. c .readable y (or-left _ (readsTrace y (slice ts)) r)) (o .0), o .1)),
+    (
+      a,
+      omega (arith, c .lower),
+      m,
+      (
+        ok-cover (σ .readable) (τ .readable) 17 0 1 e
+            (λ y r. c .readable y (or-left _ (readsTrace y (slice ts)) r)) (o .0),
+        o .1,
+      ),
+    ),
     ih (see σ (Assign p x e)) (see τ (Assign p x e)) (covers-assign (slice ts) σ τ p x e c) os,
   )
   assign-ok p x e false n c ((a, l, m, o), os) = ih (see σ (Assign p x e)) τ (covers-unread (slice ts) σ τ p x e n l c) os
@@ -215,7 +230,8 @@ unfolding slice
 slice-smaller [] = omega arith
 slice-smaller (t ∷ ts) = go (keep t ts (slice ts)) (slice-smaller ts)
   where
-    first : (us : List Stmt) → length (recordsBytes stmtBytes (t ∷ us)) ≡ length (recordBytes stmtBytes t) + length (recordsBytes stmtBytes us)
+    first : (us : List Stmt) → length (recordsBytes stmtBytes (t ∷ us)) ≡ length (recordBytes stmtBytes t) + length
+        (recordsBytes stmtBytes us)
     first us = length-append (recordBytes stmtBytes t) (recordsBytes stmtBytes us)
 
     go : (b : Bool) → length (recordsBytes stmtBytes (slice ts)) ≤ length (recordsBytes stmtBytes ts)
@@ -280,7 +296,8 @@ unfolding slice
 slice-slice [] = refl
 slice-slice (t ∷ ts) = go (keep t ts (slice ts)) refl (slice-slice ts)
   where
-    go : (b : Bool) → keep t ts (slice ts) ≡ b → slice (slice ts) ≡ slice ts → slice (cond b (t ∷ slice ts) (slice ts)) ≡ cond b (t ∷ slice ts) (slice ts)
+    go : (b : Bool) → keep t ts (slice ts) ≡ b → slice (slice ts) ≡ slice ts
+        → slice (cond b (t ∷ slice ts) (slice ts)) ≡ cond b (t ∷ slice ts) (slice ts)
     go true q ih = ap (keptBefore t (slice ts)) ih ∙ ap (λ b. cond b (t ∷ slice ts) (slice ts)) (slice-keep t ts (slice ts) ∙ q)
     go false q ih = ih
 
@@ -290,7 +307,8 @@ unfolding readTrace
 refused-positive s = file-refused-positive 129 4096 (λ S n. stmt (S + 4096)) see atFirst (λ S n. stmt-low (S + 4096)) s
 
 -- slicing a slice's bytes answers as slicing the trace's
-pub slice-again : (s : List ℕ) (room : ℕ) → All Byte s → (sliceAnswer s room) .reply ≡ 0 → sliceAnswer ((sliceAnswer s room) .bytes) room ≡ sliceAnswer s room
+pub slice-again : (s : List ℕ) (room : ℕ) → All Byte s → (sliceAnswer s room) .reply ≡ 0 → sliceAnswer ((sliceAnswer s room) .bytes) room
+    ≡ sliceAnswer s room
 unfolding sliceAnswer
 slice-again s room o h = go (readTrace s) refl h
   where

@@ -40,7 +40,8 @@ fn keeps(trace: &[u8], at: usize, asserts: bool, needed: &[bool]) -> bool
 // The symbols that the statement at a place reads become needed.
 fn mark_record(trace: &[u8], at: usize, needed: &mut [bool])
     requires { ⌜ (at < 65536) × (length (now needed) ≡ 4160) × (isGood (held (drop at (now trace))) ≡ true) ⌝ }
-    ensures { λ _. ⌜ ((x : ℕ) → inSet (now (needed .exit)) x ≡ (readsIn x (held (drop at (now (trace .entry)))) || inSet (now (needed .entry)) x)) ⌝ }
+    ensures { λ _. ⌜ ((x : ℕ) → inSet (now (needed .exit)) x
+        ≡ (readsIn x (held (drop at (now (trace .entry)))) || inSet (now (needed .entry)) x)) ⌝ }
 {
     reads::mark_reads(read::expr_at(trace, at), needed);
 }
@@ -64,8 +65,10 @@ fn step_back(
     kept: &mut [bool],
     needed: &mut [bool],
 ) -> Kept
-    requires { ⌜ (at < 65536) × (length (now needed) ≡ 4160) × (k < length (now kept)) × (behind .count ≤ 4096) × (behind .size < 65536) × (isGood (held (drop at (now trace))) ≡ true) ⌝ }
-    ensures { λ r. ⌜ Stepped (held (drop at (now (trace .entry)))) (2 + numberOf 2 (drop at (now (trace .entry)))) k behind (now (kept .entry)) (now (needed .entry)) (now (kept .exit)) (now (needed .exit)) r ⌝ }
+    requires { ⌜ (at < 65536) × (length (now needed) ≡ 4160) × (k < length (now kept)) × (behind .count ≤ 4096) × (behind .size < 65536)
+        × (isGood (held (drop at (now trace))) ≡ true) ⌝ }
+    ensures { λ r. ⌜ Stepped (held (drop at (now (trace .entry)))) (2 + numberOf 2 (drop at (now (trace .entry)))) k behind
+        (now (kept .entry)) (now (needed .entry)) (now (kept .exit)) (now (needed .exit)) r ⌝ }
 {
     if keeps(trace, at, behind.asserts, &*needed) {
         mark_record(trace, at, needed);
@@ -87,7 +90,8 @@ pub fn walk_back(
     kept: &mut [bool],
     needed: &mut [bool],
 ) -> Kept
-    requires { ⌜ Ready (now trace) (now offsets) n × (n ≤ length (now kept)) × (length (now needed) ≡ 4160) × ((x : ℕ) → inSet (now needed) x ≡ false) × ((x : ℕ) → getD (now kept) x false ≡ false) ⌝ }
+    requires { ⌜ Ready (now trace) (now offsets) n × (n ≤ length (now kept)) × (length (now needed) ≡ 4160)
+        × ((x : ℕ) → inSet (now needed) x ≡ false) × ((x : ℕ) → getD (now kept) x false ≡ false) ⌝ }
     ensures { λ r. ⌜ WalkedBack (listed (readTrace (now (trace .entry)))) (now (kept .exit)) (now (needed .exit)) r ⌝ }
 {
     let mut k = n;

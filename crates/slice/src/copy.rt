@@ -12,7 +12,8 @@ ghost use Rattle.slice.specs.Shown.{kept, keptBytes};
 
 // The record at a place, if it is kept.
 fn copy_record(trace: &[u8], at: usize, keep: bool, out: &mut [u8], to: usize) -> usize
-    requires { ⌜ (at < 65536) × (isGood (held (drop at (now trace))) ≡ true) × (to + length (keptBytes keep (held (drop at (now trace)))) ≤ length (now out)) ⌝ }
+    requires { ⌜ (at < 65536) × (isGood (held (drop at (now trace))) ≡ true)
+        × (to + length (keptBytes keep (held (drop at (now trace)))) ≤ length (now out)) ⌝ }
     ensures { λ r. ⌜ Wrote (now (out .entry)) to (keptBytes keep (held (drop at (now (trace .entry))))) (now (out .exit)) r ⌝ }
 {
     if keep {
@@ -30,8 +31,10 @@ pub fn copy_kept(
     out: &mut [u8],
     to: usize,
 ) -> usize
-    requires { ⌜ Ready (now trace) (now offsets) n × (n ≤ length (now flags)) × (to + length (recordsBytes stmtBytes (kept (now flags) (listed (readTrace (now trace))))) ≤ length (now out)) ⌝ }
-    ensures { λ r. ⌜ Wrote (now (out .entry)) to (recordsBytes stmtBytes (kept (now (flags .entry)) (listed (readTrace (now (trace .entry)))))) (now (out .exit)) r ⌝ }
+    requires { ⌜ Ready (now trace) (now offsets) n × (n ≤ length (now flags))
+        × (to + length (recordsBytes stmtBytes (kept (now flags) (listed (readTrace (now trace))))) ≤ length (now out)) ⌝ }
+    ensures { λ r. ⌜ Wrote (now (out .entry)) to
+        (recordsBytes stmtBytes (kept (now (flags .entry)) (listed (readTrace (now (trace .entry)))))) (now (out .exit)) r ⌝ }
 {
     let mut k: usize = 0;
     let mut at = to;

@@ -15,7 +15,9 @@ ghost use Rattle.slice.specs.Shown.{inSet, readsRead};
 // The symbol of the token at a place, if it is one, becomes needed; the token's bytes.
 fn mark_token(e: &[u8], i: usize, needed: &mut [bool]) -> usize
     requires { ⌜ (i < length (now e)) × Stands Trace (length (now needed)) (now e) i ⌝ }
-    ensures { λ r. ⌜ (r ≡ sizeOf Trace (readToken Trace (drop i (now (e .entry))))) × ((x : ℕ) → inSet (now (needed .exit)) x ≡ (readsRead x (readToken Trace (drop i (now (e .entry)))) || inSet (now (needed .entry)) x)) ⌝ }
+    ensures { λ r. ⌜ (r ≡ sizeOf Trace (readToken Trace (drop i (now (e .entry)))))
+        × ((x : ℕ) → inSet (now (needed .exit)) x ≡ (readsRead x (readToken Trace (drop i (now (e .entry)))) || inSet (now (needed .entry))
+        x)) ⌝ }
 {
     let code = e[i];
     if code == 0x01 {
@@ -31,7 +33,8 @@ fn mark_token(e: &[u8], i: usize, needed: &mut [bool]) -> usize
 // The symbols of an expression become needed.
 pub fn mark_reads(e: &[u8], needed: &mut [bool])
     requires { ⌜ isWhole (parse Trace (below (length (now needed))) (now e)) ≡ true ⌝ }
-    ensures { λ _. ⌜ ((x : ℕ) → inSet (now (needed .exit)) x ≡ (reads x (tokensOf (parse Trace (below (length (now (needed .entry)))) (now (e .entry)))) || inSet (now (needed .entry)) x)) ⌝ }
+    ensures { λ _. ⌜ ((x : ℕ) → inSet (now (needed .exit)) x
+        ≡ (reads x (tokensOf (parse Trace (below (length (now (needed .entry)))) (now (e .entry)))) || inSet (now (needed .entry)) x)) ⌝ }
 {
     let mut i: usize = 0;
     while i < e.len() {

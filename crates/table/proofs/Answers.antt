@@ -33,14 +33,17 @@ abbrev first : (S : ℕ) → Unit {0}
 first S = tt
 
 module _ (s : List ℕ) where
-  pub header-read : (r : ℕ) → r ≡ headerReply 1 1024 s → (r ≡ 0 → ⊥) → (off : List ℕ) → ReadTable s off off (record { reply = r; offset = 0; count = 0 })
+  pub header-read : (r : ℕ) → r ≡ headerReply 1 1024 s → (r ≡ 0 → ⊥) → (off : List ℕ)
+      → ReadTable s off off (record { reply = r; offset = 0; count = 0 })
   unfolding readTable
   header-read = Reading.header-read 1 1024 one next first s
 
   -- with the code's own count of records
-  pub records-read : headerReply 1 1024 s ≡ 0 → (n : ℕ) → n ≡ headerCount s → {off off′ : List ℕ} {r : Reading} → ReadRecords s (headerInputs s) n off off′ r → ReadTable s off off′ r
+  pub records-read : headerReply 1 1024 s ≡ 0 → (n : ℕ) → n ≡ headerCount s → {off off′ : List ℕ} {r : Reading}
+      → ReadRecords s (headerInputs s) n off off′ r → ReadTable s off off′ r
   unfolding readTable
-  records-read h n e {off} {off′} {r} w = Reading.records-read 1 1024 one next first s h (subst (λ n. ReadRecords s (headerInputs s) n off off′ r) e w)
+  records-read h n e {off} {off′} {r} w = Reading.records-read 1 1024 one next first s h
+      (subst (λ n. ReadRecords s (headerInputs s) n off off′ r) e w)
 
 module _ {s off off′ : List ℕ} {r : Reading} (w : ReadTable s off off′ r) where
   pub offset-small : All Byte s → r .offset < 65536

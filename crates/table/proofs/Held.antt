@@ -27,9 +27,12 @@ pub record Held (T n : ℕ) (s : List ℕ) (at : ℕ) : Type 0 where
   pub kind-there : at + 2 < length s
   pub starts : exprStart (getD s (at + 2) 0) ≤ 2 + numberOf 2 (drop at s)
   pub parsed : parse Table (below T) (exprPart s at) ≡ Whole (exprOf instruction)
-  pub assigns : getD s (at + 2) 0 ≡ 1 → (instruction ≡ Assign (numberOf 1 (drop (at + 3) s)) (exprOf instruction)) × (numberOf 1 (drop (at + 3) s) < T) × (at + 4 ≤ length s)
-  pub jumps : getD s (at + 2) 0 ≡ 4 → (instruction ≡ IfThenGoto (numberOf 2 (drop (at + 3) s)) (exprOf instruction)) × (numberOf 2 (drop (at + 3) s) ≤ n) × (at + 5 ≤ length s)
-  pub tests : (getD s (at + 2) 0 ≡ 1 → ⊥) → (getD s (at + 2) 0 ≡ 4 → ⊥) → instruction ≡ Test (kindOf (getD s (at + 2) 0)) (exprOf instruction)
+  pub assigns : getD s (at + 2) 0 ≡ 1 → (instruction ≡ Assign (numberOf 1 (drop (at + 3) s)) (exprOf instruction))
+      × (numberOf 1 (drop (at + 3) s) < T) × (at + 4 ≤ length s)
+  pub jumps : getD s (at + 2) 0 ≡ 4 → (instruction ≡ IfThenGoto (numberOf 2 (drop (at + 3) s)) (exprOf instruction))
+      × (numberOf 2 (drop (at + 3) s) ≤ n) × (at + 5 ≤ length s)
+  pub tests : (getD s (at + 2) 0 ≡ 1 → ⊥) → (getD s (at + 2) 0 ≡ 4 → ⊥)
+      → instruction ≡ Test (kindOf (getD s (at + 2) 0)) (exprOf instruction)
   pub kinds : (getD s (at + 2) 0 ≡ 1 → ⊥) → (getD s (at + 2) 0 ≡ 4 → ⊥) → (2 ≤ getD s (at + 2) 0) × (getD s (at + 2) 0 ≤ 3)
 
 module _ (T n : ℕ) (s : List ℕ) (at : ℕ) where
@@ -50,16 +53,23 @@ module _ (T n : ℕ) (s : List ℕ) (at : ℕ) where
     number j h = body-number (instr T n) s at x g 1 j h
 
     -- the expression from k on, where the kind's expression begins at 2 + k
-    placed : (k : ℕ) → exprStart (getD s (at + 2) 0) ≡ 2 + k → (e : List Token) → parse Table (below T) (drop k body) ≡ Whole e → parse Table (below T) (exprPart s at) ≡ Whole e
-    placed k q e p = ap (λ m. parse Table (below T) (restOf s at m)) q ∙ ap (parse Table (below T)) (sym (body-part (instr T n) s at x g k)) ∙ p
+    placed : (k : ℕ) → exprStart (getD s (at + 2) 0) ≡ 2 + k → (e : List Token) → parse Table (below T) (drop k body) ≡ Whole e
+        → parse Table (below T) (exprPart s at) ≡ Whole e
+    placed k q e p =
+        ap (λ m. parse Table (below T) (restOf s at m)) q ∙ ap (parse Table (below T)) (sym (body-part (instr T n) s at x g k)) ∙ p
 
     there : at + 2 < length s
     there = omega (arith, inside, long, body-some (instr T n) s at x g)
 
-    test : (k : Kind) (e : List Token) → (2 ≤ getD s (at + 2) 0) × (getD s (at + 2) 0 ≤ 3) → kindOf (getD s (at + 2) 0) ≡ k → 1 ≤ length body
+    test : (k : Kind) (e : List Token) → (2 ≤ getD s (at + 2) 0) × (getD s (at + 2) 0 ≤ 3) → kindOf (getD s (at + 2) 0) ≡ k
+        → 1 ≤ length body
         → parse Table (below T) (drop 1 body) ≡ Whole e → recordOf (instr T n) (drop at s) ≡ Good (Test k e) → Held T n s at
     test k e c d h p g =
-        let q : exprStart (getD s (at + 2) 0) ≡ 3 = rw (ne-eqb (getD s (at + 2) 0) 1 (λ z. omega (arith, c .0)), ne-eqb (getD s (at + 2) 0) 4 (λ z. omega (arith, c .1))) in
+        let q : exprStart (getD s (at + 2) 0) ≡ 3 = rw (
+          ne-eqb (getD s (at + 2) 0) 1 (λ z. omega (arith, c .0)),
+          ne-eqb (getD s (at + 2) 0)
+              4 (λ z. omega (arith, c .1)),
+        ) in
         record {
           instruction = Test k e;
           is = g;
@@ -117,5 +127,7 @@ module _ (T n : ℕ) (s : List ℕ) (at : ℕ) where
   held-at h = go (recordOf (instr T n) (drop at s)) refl h
     where
       go : (b : Body Instr) → recordOf (instr T n) (drop at s) ≡ b → isGood b ≡ true → Held T n s at
-      go (Good x) g h = held x g x g (says T n (take (frame (drop at s)) (drop 2 (drop at s))) (body-some (instr T n) s at x g) x (read-body (instr T n) s at x g))
+      go (Good x) g h =
+          held x g x g (says T n (take (frame (drop at s)) (drop 2 (drop at s))) (body-some (instr T n) s at x g) x
+          (read-body (instr T n) s at x g))
       go (Bad r) g h = absurd (let z : _≡_ {A = ℕ} 0 1 = cc in omega arith)

@@ -39,11 +39,13 @@ module _ {T n : ℕ} {s : List ℕ} {at : ℕ} (h : Held T n s at) where
   pub expr-whole : {e : List ℕ} → e ≡ exprPart s at → parse Table (below T) e ≡ Whole (exprOf (h .instruction))
   expr-whole q = ap (parse Table (below T)) q ∙ h .parsed
 
-  pub expr-value : (ρ : Env) {e : List ℕ} → e ≡ exprPart s at → valueOf ρ (parse Table (below T) e) ≡ valueIn (recordOf (instr T n) (drop at s)) ρ
+  pub expr-value : (ρ : Env) {e : List ℕ} → e ≡ exprPart s at
+      → valueOf ρ (parse Table (below T) e) ≡ valueIn (recordOf (instr T n) (drop at s)) ρ
   unfolding value
   expr-value ρ q = ap (valueOf ρ) (expr-whole q) ∙ sym (ap (λ b. valueIn b ρ) (h .is))
 
-module _ {n : ℕ} {s : List ℕ} {at : ℕ} (vals : List ℕ) (h : Held (length vals) n s at) (K i r w : ℕ) (v : w ≡ valueIn (recordOf (instr (length vals) n) (drop at s)) (envOf vals)) where
+module _ {n : ℕ} {s : List ℕ} {at : ℕ} (vals : List ℕ) (h : Held (length vals) n s at) (K i r w : ℕ)
+    (v : w ≡ valueIn (recordOf (instr (length vals) n) (drop at s)) (envOf vals)) where
   abbrev ρ : Env
   ρ = envOf vals
 
@@ -54,17 +56,23 @@ module _ {n : ℕ} {s : List ℕ} {at : ℕ} (vals : List ℕ) (h : Held (length
   is-value = v ∙ ap (λ b. valueIn b ρ) (h .is)
 
   -- the step of the record, by the form of its instruction
-  by : (m : Move) (vals′ : List ℕ) (x : Instr) → h .instruction ≡ x → Moved (step n K i r x ρ) m vals′ → Moved (stepBody n K i r rec ρ) m vals′
-  by m vals′ x e k = subst (λ b. Moved (stepBody n K i r b ρ) m vals′) (sym (h .is)) (subst (λ y. Moved (step n K i r y ρ) m vals′) (sym e) k)
+  by : (m : Move) (vals′ : List ℕ) (x : Instr) → h .instruction ≡ x → Moved (step n K i r x ρ) m vals′
+      → Moved (stepBody n K i r rec ρ) m vals′
+  by m vals′ x e k =
+      subst (λ b. Moved (stepBody n K i r b ρ) m vals′) (sym (h .is)) (subst (λ y. Moved (step n K i r y ρ) m vals′) (sym e) k)
 
   onward : M.Go (i + 1) r ≡ M.Go (suc i) r
   onward = ap {B = Move} (λ j. M.Go j r) (add-one i)
 
-  pub assign-moves : (y : ℕ) → getD s (at + 2) 0 ≡ 1 → y ≡ numberOf 1 (drop (at + 3) s) → Moved (stepBody n K i r rec ρ) (M.Go (i + 1) r) (set vals y w)
+  pub assign-moves : (y : ℕ) → getD s (at + 2) 0 ≡ 1 → y ≡ numberOf 1 (drop (at + 3) s)
+      → Moved (stepBody n K i r rec ρ) (M.Go (i + 1) r) (set vals y w)
   assign-moves y k q =
       let a = h .assigns k in
-      by (M.Go (i + 1) r) (set vals y w) (Assign (numberOf 1 (drop (at + 3) s)) (exprOf (h .instruction))) (a .0)
-      (onward, ap₂ (λ y w. envOf (set vals y w)) q is-value ∙ update-set vals (numberOf 1 (drop (at + 3) s)) (value ρ (exprOf (h .instruction))) (a .1))
+      by (M.Go (i + 1) r) (set vals y w) (Assign (numberOf 1 (drop (at + 3) s)) (exprOf (h .instruction))) (a .0) (
+        onward,
+        ap₂ (λ y w. envOf (set vals y w)) q is-value
+            ∙ update-set vals (numberOf 1 (drop (at + 3) s)) (value ρ (exprOf (h .instruction))) (a .1),
+      )
 
   -- a condition that is false, and one that is true
   pub goto-stays : getD s (at + 2) 0 ≡ 4 → w ≡ 0 → Moved (stepBody n K i r rec ρ) (M.Go (i + 1) r) vals
@@ -84,20 +92,24 @@ module _ {n : ℕ} {s : List ℕ} {at : ℕ} (vals : List ℕ) (h : Held (length
       go true false e = absurd (let z : _≡_ {A = ℕ} 0 1 = cc in omega arith)
       go false b e = cc
 
-  pub goto-jumps : (m : Move) (t : ℕ) → getD s (at + 2) 0 ≡ 4 → (w ≡ 0 → ⊥) → t ≡ numberOf 2 (drop (at + 3) s) → m ≡ moveOf (jump n K i r t ρ)
+  pub goto-jumps : (m : Move) (t : ℕ) → getD s (at + 2) 0 ≡ 4 → (w ≡ 0 → ⊥) → t ≡ numberOf 2 (drop (at + 3) s)
+      → m ≡ moveOf (jump n K i r t ρ)
       → Moved (stepBody n K i r rec ρ) m vals
   goto-jumps m t k z q e =
       by m vals (IfThenGoto (numberOf 2 (drop (at + 3) s)) (exprOf (h .instruction))) (h .jumps k .0)
       (rw (ne-eqb (value ρ (exprOf (h .instruction))) 0 (λ y. z (is-value ∙ y)))
-      (moved-of (jump n K i r (numberOf 2 (drop (at + 3) s)) ρ) m (e ∙ ap (λ t. moveOf (jump n K i r t ρ)) q) (jump-keeps (numberOf 2 (drop (at + 3) s)))))
+      (moved-of (jump n K i r (numberOf 2 (drop (at + 3) s)) ρ) m (e ∙ ap (λ t. moveOf (jump n K i r t ρ)) q)
+      (jump-keeps (numberOf 2 (drop (at + 3) s)))))
 
   pub test-fails : (m : Move) (p : ℕ) → (getD s (at + 2) 0 ≡ 1 → ⊥) → (getD s (at + 2) 0 ≡ 4 → ⊥) → w ≡ 0 → p ≡ placeIn n r i
       → m ≡ moveOf (Halt (Failed (kindOf (getD s (at + 2) 0)) p)) → Moved (stepBody n K i r rec ρ) m vals
   test-fails m p a b z q e =
       by m vals (Test (kindOf (getD s (at + 2) 0)) (exprOf (h .instruction))) (h .tests a b)
-      (rw (eq-eqb (value ρ (exprOf (h .instruction))) 0 (sym is-value ∙ z)) (e ∙ ap (λ p. moveOf (Halt (Failed (kindOf (getD s (at + 2) 0)) p))) q))
+      (rw (eq-eqb (value ρ (exprOf (h .instruction))) 0 (sym is-value ∙ z))
+      (e ∙ ap (λ p. moveOf (Halt (Failed (kindOf (getD s (at + 2) 0)) p))) q))
 
-  pub test-holds : (getD s (at + 2) 0 ≡ 1 → ⊥) → (getD s (at + 2) 0 ≡ 4 → ⊥) → (w ≡ 0 → ⊥) → Moved (stepBody n K i r rec ρ) (M.Go (i + 1) r) vals
+  pub test-holds : (getD s (at + 2) 0 ≡ 1 → ⊥) → (getD s (at + 2) 0 ≡ 4 → ⊥) → (w ≡ 0 → ⊥)
+      → Moved (stepBody n K i r rec ρ) (M.Go (i + 1) r) vals
   test-holds a b z =
       by (M.Go (i + 1) r) vals (Test (kindOf (getD s (at + 2) 0)) (exprOf (h .instruction))) (h .tests a b)
       (rw (ne-eqb (value ρ (exprOf (h .instruction))) 0 (λ y. z (is-value ∙ y))) (onward, refl))

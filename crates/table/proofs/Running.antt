@@ -113,7 +113,8 @@ module _ (s off : List ℕ) (n K T S : ℕ) (is : List Instr) (l : Loaded s S is
     pub end : n ≤ i → record { reply = 0; offset = 0; verdict = 0; place = 0; «back_jumps» = r } ≡ answerOf whole
     end h = sym (ap answerOf (one-step [] (drop-of-length-le is {i = i} (omega arith))))
 
-    module _ (h : i < n) (m : Move) (vals′ : List ℕ) (moved : Moved (stepBody n K i r (recordOf (instr T n) (drop (getD off i 0) s)) (envOf vals)) m vals′) where
+    module _ (h : i < n) (m : Move) (vals′ : List ℕ)
+        (moved : Moved (stepBody n K i r (recordOf (instr T n) (drop (getD off i 0) s)) (envOf vals)) m vals′) where
       abbrev x : Instr
       x = here i h .instruction
 
@@ -122,12 +123,15 @@ module _ (s off : List ℕ) (n K T S : ℕ) (is : List Instr) (l : Loaded s S is
           (subst (λ k. Moved (stepBody k K i r (recordOf (instr T n) (drop (getD off i 0) s)) (envOf vals)) m vals′) (sym q) moved)
 
       leads : Leads N K i r (step N K i r x (envOf vals))
-      leads = step-leads N K i r (omega arith) (w .few) S x (envOf vals) ((subst (All (InstrOk S (length is))) (here i h .is-here) (all-drop (InstrOk S (length is)) i is all-ok)) .0)
+      leads =
+          step-leads N K i r (omega arith) (w .few) S x (envOf vals)
+          ((subst (All (InstrOk S (length is))) (here i h .is-here) (all-drop (InstrOk S (length is)) i is all-ok)) .0)
 
       pub halts : (v p : ℕ) → m ≡ M.End v p → record { reply = 0; offset = 0; verdict = v; place = p; «back_jumps» = r } ≡ answerOf whole
       halts v p e = go (step N K i r x (envOf vals)) refl stepped
         where
-          go : (y : Next) → step N K i r x (envOf vals) ≡ y → Moved y m vals′ → record { reply = 0; offset = 0; verdict = v; place = p; «back_jumps» = r } ≡ answerOf whole
+          go : (y : Next) → step N K i r x (envOf vals) ≡ y → Moved y m vals′
+              → record { reply = 0; offset = 0; verdict = v; place = p; «back_jumps» = r } ≡ answerOf whole
           go (Halt o) g k =
               let a : v ≡ verdict o = (let z = sym e ∙ k in cc) in
               let b : p ≡ placeOf o = (let z = sym e ∙ k in cc) in

@@ -49,7 +49,8 @@ unfolding runAnswer readTable readFile headerReply records run
 m11 = refl
 
 -- K = 255 is accepted, 256 is 8; and 8 comes before 11
-bounds : (runAnswer smallRule 255 (255 ∷ []) ≡ unsafeAt 1278 255) × (runAnswer smallRule 256 (255 ∷ []) ≡ refusal 8 0) × (runAnswer smallRule 256 [] ≡ refusal 8 0)
+bounds : (runAnswer smallRule 255 (255 ∷ []) ≡ unsafeAt 1278 255) × (runAnswer smallRule 256 (255 ∷ []) ≡ refusal 8 0)
+    × (runAnswer smallRule 256 [] ≡ refusal 8 0)
     × (runAnswer smallRule 0 [] ≡ refusal 11 0)
 unfolding runAnswer readTable readFile headerReply records recordOf frame instr parseFrom readToken operator fits run value unary binary
 bounds = (refl, refl, refl, refl)
@@ -81,11 +82,13 @@ unfolding readTable readFile headerReply records recordOf frame instr parseFrom
 faults = (refl, refl, refl)
 
 -- a self jump is a back jump: (0) if 1 go to 0
-self-jump : runAnswer (0x01 ∷ 0x00 ∷ 0x10 ∷ 0x00 ∷ 0x00 ∷ 0x01 ∷ 0x00 ∷ 0x08 ∷ 0x04 ∷ 0x00 ∷ 0x00 ∷ 0x01 ∷ 0x00 ∷ 0x00 ∷ 0x00 ∷ 0x01 ∷ []) 7 [] ≡ safe 7
+self-jump : runAnswer (0x01 ∷ 0x00 ∷ 0x10 ∷ 0x00 ∷ 0x00 ∷ 0x01 ∷ 0x00 ∷ 0x08 ∷ 0x04 ∷ 0x00 ∷ 0x00 ∷ 0x01 ∷ 0x00 ∷ 0x00 ∷ 0x00 ∷ 0x01 ∷ [])
+    7 [] ≡ safe 7
 unfolding runAnswer readTable readFile headerReply records recordOf frame instr parseFrom readToken operator fits run value
 self-jump = refl
 
--- (0) assert x; (1) assume y; (2) assert 0, for x and y: any word but zero is true, a false Assume ends the run safe, a false Assert unsafe at its place
+-- (0) assert x; (1) assume y; (2) assert 0, for x and y: any word but zero is true, a false Assume ends the run safe, a false Assert
+-- unsafe at its place
 abbrev tested : List ℕ
 tested =
     0x01 ∷ 0x00 ∷ 0x18 ∷ 0x02 ∷ 0x00 ∷ 0x03
@@ -93,7 +96,8 @@ tested =
     ∷ 0x00 ∷ 0x03 ∷ 0x02 ∷ 0x02 ∷ 0x01
     ∷ 0x00 ∷ 0x06 ∷ 0x03 ∷ 0x01 ∷ 0x00 ∷ 0x00 ∷ 0x00 ∷ 0x00 ∷ []
 
-tests : (runAnswer tested 3 (0 ∷ 0 ∷ []) ≡ unsafeAt 0 0) × (runAnswer tested 3 (2 ∷ 0 ∷ []) ≡ safe 0) × (runAnswer tested 3 (2147483648 ∷ 2 ∷ []) ≡ unsafeAt 2 0)
+tests : (runAnswer tested 3 (0 ∷ 0 ∷ []) ≡ unsafeAt 0 0) × (runAnswer tested 3 (2 ∷ 0 ∷ []) ≡ safe 0)
+    × (runAnswer tested 3 (2147483648 ∷ 2 ∷ []) ≡ unsafeAt 2 0)
 unfolding runAnswer readTable readFile headerReply records recordOf frame instr parseFrom readToken operator fits run value
 tests = (refl, refl, refl)
 
@@ -152,7 +156,8 @@ twoLoops =
 
 -- K = 2 is enough for either loop alone, not for both; K = 3 just is, and more changes nothing
 shared-bound : (runAnswer twoLoops 2 (3 ∷ 1 ∷ []) ≡ unsafeAt 16 2) × (runAnswer twoLoops 2 (1 ∷ 3 ∷ []) ≡ unsafeAt 16 2)
-    × (runAnswer twoLoops 2 (3 ∷ 2 ∷ []) ≡ safe 2) × (runAnswer twoLoops 3 (3 ∷ 2 ∷ []) ≡ unsafeAt 22 3) × (runAnswer twoLoops 255 (3 ∷ 2 ∷ []) ≡ unsafeAt 22 3)
+    × (runAnswer twoLoops 2 (3 ∷ 2 ∷ []) ≡ safe 2) × (runAnswer twoLoops 3 (3 ∷ 2 ∷ []) ≡ unsafeAt 22 3)
+    × (runAnswer twoLoops 255 (3 ∷ 2 ∷ []) ≡ unsafeAt 22 3)
 unfolding runAnswer readTable readFile headerReply records recordOf frame instr parseFrom readToken operator fits run value binary
 shared-bound = (refl, refl, refl, refl, refl)
 

@@ -37,17 +37,20 @@ module _ (n K i r : ℕ) (h : i < n) (k : r ≤ K) where
   onwards : (ρ : Env) → Leads n K i r (Go (suc i) r ρ)
   onwards ρ = goes (suc i) r ρ k h (omega arith)
 
-  back : (t : ℕ) (ρ : Env) → t ≤ n → (b : Bool) → ltb r K ≡ b → Leads n K i r (cond b (Go t (suc r) ρ) (Halt (Failed Bound (placeIn n r i))))
+  back : (t : ℕ) (ρ : Env) → t ≤ n → (b : Bool) → ltb r K ≡ b
+      → Leads n K i r (cond b (Go t (suc r) ρ) (Halt (Failed Bound (placeIn n r i))))
   back t ρ l true e =
       let m : r < K = ltb-true r K e in
-      let c : (K - r) * suc n ≡ (K - suc r) * suc n + suc n = ap (λ x. x * suc n) (let z : K - r ≡ suc (K - suc r) = omega arith in z) ∙ suc-mul (K - suc r) (suc n) in
+      let c : (K - r) * suc n ≡ (K - suc r) * suc n + suc n = ap (λ x. x * suc n) (let z : K - r ≡ suc (K - suc r) = omega arith in z)
+      ∙ suc-mul (K - suc r) (suc n) in
       goes t (suc r) ρ m l (omega arith)
   back t ρ l false e = fails Bound
 
   jump-leads : (t : ℕ) (ρ : Env) → t ≤ n → Leads n K i r (jump n K i r t ρ)
   jump-leads t ρ l = go (leb t i) refl
     where
-      go : (b : Bool) → leb t i ≡ b → Leads n K i r (cond b (cond (ltb r K) (Go t (suc r) ρ) (Halt (Failed Bound (placeIn n r i)))) (Go t r ρ))
+      go : (b : Bool) → leb t i ≡ b → Leads n K i r (cond b (cond (ltb r K) (Go t (suc r) ρ) (Halt (Failed Bound (placeIn n r i))))
+          (Go t r ρ))
       go true e = back t ρ l (ltb r K) refl
       go false e = goes t r ρ k l (omega (arith, leb-false t i e))
 
@@ -59,7 +62,8 @@ module _ (n K i r : ℕ) (h : i < n) (k : r ≤ K) where
 -- ---- the fuel
 
 -- the instruction at i, if there is one
-drop-cases {ℓ} : (is : List Instr) (i : ℕ) (C : List Instr → Type ℓ) → C [] → ((x : Instr) (xs : List Instr) → drop i is ≡ x ∷ xs → i < length is → C (x ∷ xs)) → C (drop i is)
+drop-cases {ℓ} : (is : List Instr) (i : ℕ) (C : List Instr → Type ℓ) → C []
+    → ((x : Instr) (xs : List Instr) → drop i is ≡ x ∷ xs → i < length is → C (x ∷ xs)) → C (drop i is)
 drop-cases is i C end here = go (drop i is) refl
   where
     go : (ys : List Instr) → drop i is ≡ ys → C ys
@@ -74,7 +78,8 @@ module _ (S : ℕ) (is : List Instr) (K : ℕ) (ok : All (InstrOk S (length is))
   n = length is
 
   -- with fuel for all that is left, more changes nothing
-  pub fuel-enough : (f g i r : ℕ) (ρ : Env) → i ≤ length is → r ≤ K → left (length is) K i r ≤ f → left (length is) K i r ≤ g → runFrom is K f i r ρ ≡ runFrom is K g i r ρ
+  pub fuel-enough : (f g i r : ℕ) (ρ : Env) → i ≤ length is → r ≤ K → left (length is) K i r ≤ f → left (length is) K i r ≤ g
+      → runFrom is K f i r ρ ≡ runFrom is K g i r ρ
   fuel-enough zero g i r ρ h k a b = absurd (omega arith)
   fuel-enough (suc f) zero i r ρ h k a b = absurd (omega arith)
   fuel-enough (suc f) (suc g) i r ρ h k a b =
@@ -97,16 +102,26 @@ module _ (S : ℕ) (is : List Instr) (K : ℕ) (ok : All (InstrOk S (length is))
   run-from-placed zero i r ρ h k a = absurd (omega arith)
   run-from-placed (suc f) i r ρ h k a =
       drop-cases is i (λ ys. Placed (onward (stepAt n K i r ys ρ) r (runFrom is K f)))
-      (record { few = k; found = λ e. (let z : _≡_ {A = ℕ} 0 1 = cc in omega arith); place = λ c p e. absurd (let z : _≡_ {A = ℕ} 0 1 = cc in omega arith) })
+      (record {
+        few = k;
+        found = λ e. (let z : _≡_ {A = ℕ} 0 1 = cc in omega arith);
+        place = λ c p e. absurd
+            (let z : _≡_ {A = ℕ} 0 1 = cc in omega arith);
+      })
       (λ x xs e l. here l (step n K i r x ρ) (step-leads n K i r l k S x ρ (all-at (InstrOk S n) is i x xs e ok)) (run-from-placed f))
     where
       here : i < n → (x : Next) → Leads n K i r x → ((j q : ℕ) (τ : Env) → j ≤ n → q ≤ K → left n K j q ≤ f → Placed (runFrom is K f j q τ))
           → Placed (onward x r (runFrom is K f))
-      here l x (fails c) rest = record { few = k; found = λ e. (let z : _≡_ {A = ℕ} 0 1 = cc in omega arith); place = λ d p e. (i, l, (cc)) }
+      here l x (fails c) rest = record {
+        few = k;
+        found = λ e. (let z : _≡_ {A = ℕ} 0 1 = cc in omega arith);
+        place = λ d p e. (i, l, (cc));
+      }
       here l x (goes j q τ a′ b′ c) rest = rest j q τ b′ a′ (omega arith)
 
   whole : left (length is) K 0 0 ≡ suc K * suc (length is)
-  whole = (let z : (K - 0) * suc n ≡ K * suc n = ap (λ x. x * suc n) (let y : K - 0 ≡ K = omega arith in y) in omega (arith, suc-mul K (suc n)))
+  whole =
+      (let z : (K - 0) * suc n ≡ K * suc n = ap (λ x. x * suc n) (let y : K - 0 ≡ K = omega arith in y) in omega (arith, suc-mul K (suc n)))
 
   pub run-placed : (words : List ℕ) → Placed (run is K words)
   unfolding run
@@ -118,7 +133,8 @@ module _ (S : ℕ) (is : List Instr) (K : ℕ) (ok : All (InstrOk S (length is))
   -- any fuel that is enough gives the run
   pub run-fuel : (f : ℕ) (words : List ℕ) → suc K * suc (length is) ≤ f → runFrom is K f 0 0 (envOf words) ≡ run is K words
   unfolding run
-  run-fuel f words h = fuel-enough f (suc K * suc n) 0 0 (envOf words) (omega arith) (omega arith) (omega (arith, whole)) (omega (arith, whole))
+  run-fuel f words h =
+      fuel-enough f (suc K * suc n) 0 0 (envOf words) (omega arith) (omega arith) (omega (arith, whole)) (omega (arith, whole))
 
 -- ---- words stay words
 

@@ -18,7 +18,8 @@ use Rattle.expr.specs.ExprLaws.{Ok, parse-accepted, parse-more}
 use Rattle.file.specs.Outcome.{Assume, Assert}
 use Rattle.file.specs.File.{headerInputs, headerCount, Body, Good, Bad, field, frame, Read, recordOf, Accepted, Refused}
 use Rattle.file.specs.Shown.{offsetsFrom}
-use Rattle.file.specs.FileLaws.{Low, holding-low, cond-low, framed, record-framed, record-good, next-record, Chain, records-chain, header-is, file-is, file-refused-positive, field-there, field-good, rule-good, holding-good}
+use Rattle.file.specs.FileLaws.{Low, holding-low, cond-low, framed, record-framed, record-good, next-record, Chain, records-chain}
+use Rattle.file.specs.FileLaws.{header-is, file-is, file-refused-positive, field-there, field-good, rule-good, holding-good}
 use Rattle.table.specs.Table.{Instr, Assign, Test, IfThenGoto, assign, test, ifThenGoto, instr, instrsFrom, instrs, readTable}
 
 -- ---- a record by its kind
@@ -48,19 +49,29 @@ module _ (S n : ℕ) (body : List ℕ) (h : 0 < length body) where
 
   pub kind-goto : getD body 0 0 ≡ 4 → instr S n body ≡ field 2 (drop 1 body) (ifThenGoto S n)
   kind-goto e =
-      opened body h ∙ rw (ne-eqb kind 1 (λ q. omega arith), ne-eqb kind 2 (λ q. omega arith), ne-eqb kind 3 (λ q. omega arith), eq-eqb kind 4 e)
+      opened body h ∙ rw (
+        ne-eqb kind 1 (λ q. omega arith),
+        ne-eqb kind 2 (λ q. omega arith),
+        ne-eqb kind 3 (λ q. omega arith),
+        eq-eqb kind
+            4 e,
+      )
 
-  pub kind-unknown : (getD body 0 0 ≡ 1 → ⊥) → (getD body 0 0 ≡ 2 → ⊥) → (getD body 0 0 ≡ 3 → ⊥) → (getD body 0 0 ≡ 4 → ⊥) → instr S n body ≡ Bad 5
+  pub kind-unknown : (getD body 0 0 ≡ 1 → ⊥) → (getD body 0 0 ≡ 2 → ⊥) → (getD body 0 0 ≡ 3 → ⊥) → (getD body 0 0 ≡ 4 → ⊥)
+      → instr S n body ≡ Bad 5
   kind-unknown a b c d = opened body h ∙ rw (ne-eqb kind 1 a, ne-eqb kind 2 b, ne-eqb kind 3 c, ne-eqb kind 4 d)
 
 pub instr-low : (S n : ℕ) (bs : List ℕ) → Low (instr S n bs)
 unfolding instr
 instr-low S n [] = omega arith
 instr-low S n (k ∷ bs) =
-    cond-low (eqb k 1) _ _ (cond-low (leb 1 (length bs)) _ _ (cond-low (ltb (numberOf 1 bs) S) _ _ (holding-low (Assign (numberOf 1 bs)) (parse Table (below S) (drop 1 bs))) six) five)
+    cond-low (eqb k 1) _ _ (cond-low (leb 1 (length bs)) _ _
+    (cond-low (ltb (numberOf 1 bs) S) _ _ (holding-low (Assign (numberOf 1 bs)) (parse Table (below S) (drop 1 bs))) six) five)
     (cond-low (eqb k 2) _ _ (holding-low (Test Assume) (parse Table (below S) bs))
     (cond-low (eqb k 3) _ _ (holding-low (Test Assert) (parse Table (below S) bs))
-    (cond-low (eqb k 4) _ _ (cond-low (leb 2 (length bs)) _ _ (cond-low (leb (numberOf 2 bs) n) _ _ (holding-low (IfThenGoto (numberOf 2 bs)) (parse Table (below S) (drop 2 bs))) six) five) five)))
+    (cond-low (eqb k 4) _ _ (cond-low (leb 2 (length bs)) _ _
+    (cond-low (leb (numberOf 2 bs) n) _ _ (holding-low (IfThenGoto (numberOf 2 bs)) (parse Table (below S) (drop 2 bs))) six) five)
+    five)))
   where
     five : (5 ≤ 5) × (5 ≤ 7)
     five = omega arith
@@ -76,11 +87,15 @@ table-refused-positive b = file-refused-positive {St = Unit {0}} 1 1024 (λ S n 
 -- ---- what a record that is read says
 
 pub data Says (S n : ℕ) (body : List ℕ) : Instr → Type 0 where
-  says-assign : (e : List Token) → getD body 0 0 ≡ 1 → 2 ≤ length body → numberOf 1 (drop 1 body) < S → parse Table (below S) (drop 2 body) ≡ Whole e
+  says-assign : (e : List Token) → getD body 0 0 ≡ 1 → 2 ≤ length body → numberOf 1 (drop 1 body) < S
+      → parse Table (below S) (drop 2 body) ≡ Whole e
       → Says S n body (Assign (numberOf 1 (drop 1 body)) e)
-  says-assume : (e : List Token) → getD body 0 0 ≡ 2 → 1 ≤ length body → parse Table (below S) (drop 1 body) ≡ Whole e → Says S n body (Test Assume e)
-  says-assert : (e : List Token) → getD body 0 0 ≡ 3 → 1 ≤ length body → parse Table (below S) (drop 1 body) ≡ Whole e → Says S n body (Test Assert e)
-  says-goto : (e : List Token) → getD body 0 0 ≡ 4 → 3 ≤ length body → numberOf 2 (drop 1 body) ≤ n → parse Table (below S) (drop 3 body) ≡ Whole e
+  says-assume : (e : List Token) → getD body 0 0 ≡ 2 → 1 ≤ length body → parse Table (below S) (drop 1 body) ≡ Whole e
+      → Says S n body (Test Assume e)
+  says-assert : (e : List Token) → getD body 0 0 ≡ 3 → 1 ≤ length body → parse Table (below S) (drop 1 body) ≡ Whole e
+      → Says S n body (Test Assert e)
+  says-goto : (e : List Token) → getD body 0 0 ≡ 4 → 3 ≤ length body → numberOf 2 (drop 1 body) ≤ n
+      → parse Table (below S) (drop 3 body) ≡ Whole e
       → Says S n body (IfThenGoto (numberOf 2 (drop 1 body)) e)
 
 module _ (S n : ℕ) (body : List ℕ) (h : 0 < length body) where
@@ -91,7 +106,8 @@ module _ (S n : ℕ) (body : List ℕ) (h : 0 < length body) where
       let b = rule-good (ltb s S) _ x (a .1) in
       let c = holding-good (Assign s) (parse Table (below S) (drop 1 (drop 1 body))) x (b .1) in
       subst (Says S n body) (sym (c .is))
-      (says-assign (c .expr) e (omega (arith, a .0, length-drop 1 body)) (ltb-true s S (b .0)) (ap (parse Table (below S)) (sym (drop-drop 1 1 body)) ∙ c .parsed))
+      (says-assign (c .expr) e (omega (arith, a .0, length-drop 1 body)) (ltb-true s S (b .0))
+      (ap (parse Table (below S)) (sym (drop-drop 1 1 body)) ∙ c .parsed))
 
   goto-says : (x : Instr) → getD body 0 0 ≡ 4 → field 2 (drop 1 body) (ifThenGoto S n) ≡ Good x → Says S n body x
   goto-says x e q =
@@ -100,7 +116,8 @@ module _ (S n : ℕ) (body : List ℕ) (h : 0 < length body) where
       let b = rule-good (leb t n) _ x (a .1) in
       let c = holding-good (IfThenGoto t) (parse Table (below S) (drop 2 (drop 1 body))) x (b .1) in
       subst (Says S n body) (sym (c .is))
-      (says-goto (c .expr) e (omega (arith, a .0, length-drop 1 body)) (leb-true t n (b .0)) (ap (parse Table (below S)) (sym (drop-drop 2 1 body)) ∙ c .parsed))
+      (says-goto (c .expr) e (omega (arith, a .0, length-drop 1 body)) (leb-true t n (b .0))
+      (ap (parse Table (below S)) (sym (drop-drop 2 1 body)) ∙ c .parsed))
 
   pub says : (x : Instr) → instr S n body ≡ Good x → Says S n body x
   says x q = go (eqb (getD body 0 0) 1) refl (eqb (getD body 0 0) 2) refl (eqb (getD body 0 0) 3) refl (eqb (getD body 0 0) 4) refl
@@ -123,7 +140,8 @@ module _ (S n : ℕ) (body : List ℕ) (h : 0 < length body) where
       go false e false f false g true i = goto-says x (is 4 i) (sym (kind-goto S n body h (is 4 i)) ∙ q)
       go false e false f false g false i =
           absurd (
-          let z = sym q ∙ kind-unknown S n body h (eqb-false (getD body 0 0) 1 e) (eqb-false (getD body 0 0) 2 f) (eqb-false (getD body 0 0) 3 g) (eqb-false (getD body 0 0) 4 i) in
+          let z = sym q ∙ kind-unknown S n body h (eqb-false (getD body 0 0) 1 e) (eqb-false (getD body 0 0) 2 f)
+          (eqb-false (getD body 0 0) 3 g) (eqb-false (getD body 0 0) 4 i) in
           let y : _≡_ {A = ℕ} 0 1 = cc in omega arith)
 
 -- and back
@@ -194,7 +212,13 @@ table-ok s S is o h =
     let c = records-chain {St = Unit {0}} (λ u. instr S n) (λ u a. u) s (λ u. InstrOk S n)
     (λ u l m a q. instr-ok S n (take l (drop m s)) a (all-take Byte l (drop m s) (all-drop Byte m s o)) q) n 6 tt is (f .read) in
     let k : length is ≡ n = c .1 in
-    record { inputs = omega (arith, g .inputs, f .inputs); count = k; few = omega (arith, g .count); ok = subst (λ n. All (InstrOk S n) is) (sym k) (all n is (c .0)) }
+    record {
+      inputs = omega (arith, g .inputs, f .inputs);
+      count = k;
+      few = omega (arith, g .count);
+      ok = subst (λ n. All (InstrOk S n) is)
+          (sym k) (all n is (c .0));
+    }
   where
     all : (n : ℕ) (xs : List Instr) → Chain {St = Unit {0}} (λ u. instr S n) (λ u a. u) s (λ u. InstrOk S n) tt xs → All (InstrOk S n) xs
     all n [] c = tt
@@ -202,7 +226,8 @@ table-ok s S is o h =
 
 -- ---- where an instruction stands
 
-pub instr-at : (s : List ℕ) (S n c at : ℕ) (is : List Instr) → instrsFrom S n c (drop at s) ≡ Read is → (i : ℕ) (x : Instr) (xs : List Instr) → drop i is ≡ x ∷ xs
+pub instr-at : (s : List ℕ) (S n c at : ℕ) (is : List Instr) → instrsFrom S n c (drop at s) ≡ Read is
+    → (i : ℕ) (x : Instr) (xs : List Instr) → drop i is ≡ x ∷ xs
     → recordOf (instr S n) (drop (getD (offsetsFrom c at (drop at s)) i 0) s) ≡ Good x
 unfolding offsetsFrom
 instr-at s S n zero at is h i x xs d =

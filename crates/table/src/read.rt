@@ -129,7 +129,8 @@ fn expr_start(kind: u8) -> usize
 
 // The expression of the record at a place.
 pub fn expr_at(table: &[u8], at: usize) -> &[u8]
-    requires { ⌜ (at + (2 + numberOf 2 (drop at (now table))) ≤ length (now table)) × (exprStart (getD (now table) (at + 2) 0) ≤ 2 + numberOf 2 (drop at (now table))) ⌝ }
+    requires { ⌜ (at + (2 + numberOf 2 (drop at (now table))) ≤ length (now table))
+        × (exprStart (getD (now table) (at + 2) 0) ≤ 2 + numberOf 2 (drop at (now table))) ⌝ }
     ensures { λ r. ⌜ now r ≡ exprPart (now (table .entry)) at ⌝ }
 {
     let kind = table[at + 2];

@@ -63,7 +63,8 @@ fn failed(kind: u8, place: u32) -> Move
 // The value of the expression in the record at a place.
 fn value_at(table: &[u8], at: usize, n: usize, vals: &[u32]) -> u32
     requires { ⌜ (at < 65536) × (isGood (recordOf (instr (length (now vals)) n) (drop at (now table))) ≡ true) ⌝ }
-    ensures { λ w. ⌜ w ≡ valueIn (recordOf (instr (length (now (vals .entry))) n) (drop at (now (table .entry)))) (envOf (now (vals .entry))) ⌝ }
+    ensures { λ w. ⌜ w ≡ valueIn (recordOf (instr (length (now (vals .entry))) n) (drop at (now (table .entry))))
+        (envOf (now (vals .entry))) ⌝ }
 {
     eval::eval_expr(read::expr_at(table, at), File::Table, vals)
 }
@@ -78,8 +79,10 @@ fn step_at(
     r: usize,
     vals: &mut [u32],
 ) -> Move
-    requires { ⌜ (at < 65536) × (n ≤ 1024) × (i < n) × (r ≤ bound) × (bound ≤ 255) × (isGood (recordOf (instr (length (now vals)) n) (drop at (now table))) ≡ true) ⌝ }
-    ensures { λ m. ⌜ Moved (stepBody n bound i r (recordOf (instr (length (now (vals .entry))) n) (drop at (now (table .entry)))) (envOf (now (vals .entry)))) m (now (vals .exit)) ⌝ }
+    requires { ⌜ (at < 65536) × (n ≤ 1024) × (i < n) × (r ≤ bound) × (bound ≤ 255)
+        × (isGood (recordOf (instr (length (now vals)) n) (drop at (now table))) ≡ true) ⌝ }
+    ensures { λ m. ⌜ Moved (stepBody n bound i r (recordOf (instr (length (now (vals .entry))) n) (drop at (now (table .entry))))
+        (envOf (now (vals .entry)))) m (now (vals .exit)) ⌝ }
 {
     let w = value_at(table, at, n, &*vals);
     let kind = table[at + 2];
@@ -104,7 +107,8 @@ fn step_at(
 // From instruction 0 with the values given.
 pub fn run_from(table: &[u8], offsets: &[u16], n: usize, bound: usize, vals: &mut [u32]) -> Answer
     requires { ⌜ (bound ≤ 255) × Ready (now table) (now offsets) n × (headerInputs (now table) ≤ length (now vals)) ⌝ }
-    ensures { λ a. ⌜ a ≡ answerOf (runFrom (listed (readTable (now (table .entry)))) bound ((bound + 1) * (n + 1)) 0 0 (envOf (now (vals .entry)))) ⌝ }
+    ensures { λ a. ⌜ a ≡ answerOf (runFrom (listed (readTable (now (table .entry)))) bound ((bound + 1) * (n + 1)) 0 0
+        (envOf (now (vals .entry)))) ⌝ }
 {
     let mut i: usize = 0;
     let mut r: usize = 0;

@@ -26,14 +26,17 @@ abbrev one : (S n : ℕ) → Seen → List ℕ → Body Stmt
 one S n = stmt (S + 4096)
 
 module _ (s : List ℕ) where
-  pub header-read : (r : ℕ) → r ≡ headerReply 129 4096 s → (r ≡ 0 → ⊥) → (off : List ℕ) → ReadTrace s off off (record { reply = r; offset = 0; count = 0 })
+  pub header-read : (r : ℕ) → r ≡ headerReply 129 4096 s → (r ≡ 0 → ⊥) → (off : List ℕ)
+      → ReadTrace s off off (record { reply = r; offset = 0; count = 0 })
   unfolding readTrace
   header-read = Reading.header-read 129 4096 one see atFirst s
 
   -- with the code's own count of records
-  pub records-read : headerReply 129 4096 s ≡ 0 → (n : ℕ) → n ≡ headerCount s → {off off′ : List ℕ} {r : Reading} → ReadRecords s (headerInputs s) n off off′ r → ReadTrace s off off′ r
+  pub records-read : headerReply 129 4096 s ≡ 0 → (n : ℕ) → n ≡ headerCount s → {off off′ : List ℕ} {r : Reading}
+      → ReadRecords s (headerInputs s) n off off′ r → ReadTrace s off off′ r
   unfolding readTrace
-  records-read h n e {off} {off′} {r} w = Reading.records-read 129 4096 one see atFirst s h (subst (λ n. ReadRecords s (headerInputs s) n off off′ r) e w)
+  records-read h n e {off} {off′} {r} w = Reading.records-read 129 4096 one see atFirst s h
+      (subst (λ n. ReadRecords s (headerInputs s) n off off′ r) e w)
 
 module _ {s off off′ : List ℕ} {r : Reading} (w : ReadTrace s off off′ r) where
   pub offset-small : All Byte s → r .offset < 65536

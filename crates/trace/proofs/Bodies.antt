@@ -33,7 +33,9 @@ module _ (top : ℕ) (σ : Seen) (body : List ℕ) (h : 0 < length body) where
   left = length-drop 1 body
 
   placed : 3 ≤ length body → getD body 0 0 ≡ 1 → stmt top σ body ≡ assignAt top σ place (drop 3 body)
-  placed l e = kind-assign top σ body h e ∙ field-there 2 rest (assignAt top σ) (omega (arith, left)) ∙ ap (assignAt top σ place) (drop-drop 2 1 body)
+  placed l e =
+      kind-assign top σ body h e ∙ field-there 2 rest (assignAt top σ) (omega (arith, left))
+      ∙ ap (assignAt top σ place) (drop-drop 2 1 body)
 
   pub assign-short : getD body 0 0 ≡ 1 → length body < 5 → replyOf (stmt top σ body) ≡ 5
   assign-short e l = elim (decLt (length body) 3) [ yes k ↦ first k | no k ↦ second (omega arith) ]
@@ -60,7 +62,8 @@ module _ (top : ℕ) (σ : Seen) (body : List ℕ) (h : 0 < length body) where
   pub assign-high : getD body 0 0 ≡ 1 → 5 ≤ length body → σ .least ≤ symbol → top ≤ symbol → replyOf (stmt top σ body) ≡ 6
   assign-high e l k m = ap replyOf (ruled true false (le-leb (σ .least) symbol k) (le-ltb symbol top m) l e)
 
-  pub assign-expr : getD body 0 0 ≡ 1 → 5 ≤ length body → σ .least ≤ symbol → symbol < top → replyOf (stmt top σ body) ≡ exprReply (parse Trace (σ .readable) (drop 5 body))
+  pub assign-expr : getD body 0 0 ≡ 1 → 5 ≤ length body → σ .least ≤ symbol → symbol < top
+      → replyOf (stmt top σ body) ≡ exprReply (parse Trace (σ .readable) (drop 5 body))
   assign-expr e l k m =
       ap replyOf (ruled true true (le-leb (σ .least) symbol k) (lt-ltb symbol top m) l e)
       ∙ reply-holding (Assign place symbol) (parse Trace (σ .readable) (drop 5 body))

@@ -26,8 +26,10 @@ pub record Held (top : ℕ) (σ : Seen) (s : List ℕ) (at : ℕ) : Type 0 where
   pub starts : exprStart (getD s (at + 2) 0) ≤ 2 + numberOf 2 (drop at s)
   pub parsed : parse Trace (σ .readable) (exprPart s at) ≡ Whole (exprOf statement)
   pub assigns : getD s (at + 2) 0 ≡ 1
-      → (statement ≡ Assign (numberOf 2 (drop (at + 3) s)) (numberOf 2 (drop (at + 5) s)) (exprOf statement)) × (numberOf 2 (drop (at + 5) s) < top) × (at + 7 ≤ length s)
-  pub tests : (getD s (at + 2) 0 ≡ 1 → ⊥) → (statement ≡ Test (kindOf (getD s (at + 2) 0)) (numberOf 2 (drop (at + 3) s)) (exprOf statement)) × (at + 5 ≤ length s)
+      → (statement ≡ Assign (numberOf 2 (drop (at + 3) s)) (numberOf 2 (drop (at + 5) s)) (exprOf statement))
+      × (numberOf 2 (drop (at + 5) s) < top) × (at + 7 ≤ length s)
+  pub tests : (getD s (at + 2) 0 ≡ 1 → ⊥) → (statement ≡ Test (kindOf (getD s (at + 2) 0)) (numberOf 2 (drop (at + 3) s))
+      (exprOf statement)) × (at + 5 ≤ length s)
 
 module _ (top : ℕ) (σ : Seen) (s : List ℕ) (at : ℕ) where
   module _ (x : Stmt) (g : recordOf (stmt top σ) (drop at s) ≡ Good x) where
@@ -49,9 +51,11 @@ module _ (top : ℕ) (σ : Seen) (s : List ℕ) (at : ℕ) where
     -- the expression from k on, where the kind's expression begins at 2 + k
     placed : (k : ℕ) → exprStart (getD s (at + 2) 0) ≡ 2 + k → (e : List Token) → parse Trace (σ .readable) (drop k body) ≡ Whole e
         → parse Trace (σ .readable) (exprPart s at) ≡ Whole e
-    placed k q e p = ap (λ m. parse Trace (σ .readable) (restOf s at m)) q ∙ ap (parse Trace (σ .readable)) (sym (body-part (stmt top σ) s at x g k)) ∙ p
+    placed k q e p =
+        ap (λ m. parse Trace (σ .readable) (restOf s at m)) q ∙ ap (parse Trace (σ .readable)) (sym (body-part (stmt top σ) s at x g k)) ∙ p
 
-    test : (k : Kind) (e : List Token) → (getD s (at + 2) 0 ≡ 1 → ⊥) → kindOf (getD s (at + 2) 0) ≡ k → 3 ≤ length body → parse Trace (σ .readable) (drop 3 body) ≡ Whole e
+    test : (k : Kind) (e : List Token) → (getD s (at + 2) 0 ≡ 1 → ⊥) → kindOf (getD s (at + 2) 0) ≡ k → 3 ≤ length body
+        → parse Trace (σ .readable) (drop 3 body) ≡ Whole e
         → recordOf (stmt top σ) (drop at s) ≡ Good (Test k (numberOf 2 (drop 1 body)) e) → Held top σ s at
     test k e c d h p g =
         let q : exprStart (getD s (at + 2) 0) ≡ 5 = rw (ne-eqb (getD s (at + 2) 0) 1 c) in
@@ -78,7 +82,8 @@ module _ (top : ℕ) (σ : Seen) (s : List ℕ) (at : ℕ) where
           kind-there = omega (arith, inside, long);
           starts = omega (arith, long);
           parsed = placed 5 q e p;
-          assigns = λ z. (ap₂ {C = Stmt} (λ w v. Assign w v e) (number 1 (omega arith)) y, subst (λ v. v < top) y m, omega (arith, long, inside));
+          assigns =
+              λ z. (ap₂ {C = Stmt} (λ w v. Assign w v e) (number 1 (omega arith)) y, subst (λ v. v < top) y m, omega (arith, long, inside));
           tests = λ z. absurd (z c);
         }
     held x g (says-assume e k h p) =
@@ -92,5 +97,7 @@ module _ (top : ℕ) (σ : Seen) (s : List ℕ) (at : ℕ) where
   held-at h = go (recordOf (stmt top σ) (drop at s)) refl h
     where
       go : (b : Body Stmt) → recordOf (stmt top σ) (drop at s) ≡ b → isGood b ≡ true → Held top σ s at
-      go (Good x) g h = held x g x g (says top σ (take (frame (drop at s)) (drop 2 (drop at s))) (body-some (stmt top σ) s at x g) x (read-body (stmt top σ) s at x g))
+      go (Good x) g h =
+          held x g x g (says top σ (take (frame (drop at s)) (drop 2 (drop at s))) (body-some (stmt top σ) s at x g) x
+          (read-body (stmt top σ) s at x g))
       go (Bad r) g h = absurd (let z : _≡_ {A = ℕ} 0 1 = cc in omega arith)

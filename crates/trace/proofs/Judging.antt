@@ -26,7 +26,8 @@ use Rattle.trace.specs.Shown.{loose, held, Next, Halt, On, step, stepBod
 pub record Loaded (s : List ℕ) (ts : List Stmt) : Type 0 where
   pub count : length ts ≡ headerCount s
   pub few : length ts ≤ 4096
-  pub stands : (i : ℕ) (x : Stmt) (xs : List Stmt) → drop i ts ≡ x ∷ xs → held (drop (getD (offsetsFrom (headerCount s) 6 (drop 6 s)) i 0) s) ≡ Good x
+  pub stands : (i : ℕ) (x : Stmt) (xs : List Stmt) → drop i ts ≡ x ∷ xs
+      → held (drop (getD (offsetsFrom (headerCount s) 6 (drop 6 s)) i 0) s) ≡ Good x
 
 pub loaded : (s : List ℕ) → isAccepted (readTrace s) ≡ true → Loaded s (listed (readTrace s))
 unfolding readTrace
@@ -39,7 +40,8 @@ loaded s h = go (readTrace s) refl h
     go (Accepted S ts) e h =
         let f = file-is 129 4096 stmts s S ts e in
         let g = header-is 129 4096 s (f .header) in
-        let k : length ts ≡ headerCount s = records-chain (stmt (S + 4096)) see s (λ σ a. Unit {0}) (λ σ l m a q. tt) (headerCount s) 6 (atFirst S) ts (f .read) .1 in
+        let k : length ts ≡ headerCount s = records-chain (stmt (S + 4096)) see s (λ σ a. Unit {0}) (λ σ l m a q. tt) (headerCount s) 6
+        (atFirst S) ts (f .read) .1 in
         subst (Loaded s) (sym (ap listed e)) (record {
           count = k;
           few = omega (arith, g .count);
@@ -115,7 +117,8 @@ module _ (s off : List ℕ) (n : ℕ) (ts : List Stmt) (l : Loaded s ts) (q : n 
     pub halts : (v p : ℕ) → m ≡ M.End v p → record { reply = 0; offset = 0; verdict = v; place = p } ≡ answerOf (judge ts (envOf cells₀))
     halts v p e = go (step x (envOf cells)) refl stepped
       where
-        go : (y : Next) → step x (envOf cells) ≡ y → Moved y m cells′ → record { reply = 0; offset = 0; verdict = v; place = p } ≡ answerOf (judge ts (envOf cells₀))
+        go : (y : Next) → step x (envOf cells) ≡ y → Moved y m cells′ → record { reply = 0; offset = 0; verdict = v; place = p } ≡ answerOf
+            (judge ts (envOf cells₀))
         go (Halt o) g z =
             let a : v ≡ verdict o = (let y = sym e ∙ z in cc) in
             let b : p ≡ placeOf o = (let y = sym e ∙ z in cc) in

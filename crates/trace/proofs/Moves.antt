@@ -24,7 +24,8 @@ module _ {s : List ℕ} {at : ℕ} (h : Held 4160 loose s at) where
   pub expr-whole : (T : ℕ) → T ≡ 4160 → {e : List ℕ} → e ≡ exprPart s at → parse Trace (below T) e ≡ Whole (exprOf (h .statement))
   expr-whole T t q = ap₂ (λ T e. parse Trace (below T) e) t q ∙ h .parsed
 
-  pub expr-value : (ρ : Env) (T : ℕ) → T ≡ 4160 → {e : List ℕ} → e ≡ exprPart s at → valueOf ρ (parse Trace (below T) e) ≡ valueIn (held (drop at s)) ρ
+  pub expr-value : (ρ : Env) (T : ℕ) → T ≡ 4160 → {e : List ℕ} → e ≡ exprPart s at
+      → valueOf ρ (parse Trace (below T) e) ≡ valueIn (held (drop at s)) ρ
   unfolding value
   expr-value ρ T t q = ap (valueOf ρ) (expr-whole T t q) ∙ sym (ap (λ b. valueIn b ρ) (h .is))
 
@@ -36,14 +37,19 @@ module _ {s : List ℕ} {at : ℕ} (h : Held 4160 loose s at) (cells : List ℕ)
   is-value = v ∙ ap (λ b. valueIn b ρ) (h .is)
 
   -- the step of the record, by the form of its statement
-  by : (m : Move) (cells′ : List ℕ) (x : Stmt) → h .statement ≡ x → Moved (step x ρ) m cells′ → Moved (stepBody (held (drop at s)) ρ) m cells′
+  by : (m : Move) (cells′ : List ℕ) (x : Stmt) → h .statement ≡ x → Moved (step x ρ) m cells′
+      → Moved (stepBody (held (drop at s)) ρ) m cells′
   by m cells′ x e k = subst (λ b. Moved (stepBody b ρ) m cells′) (sym (h .is)) (subst (λ y. Moved (step y ρ) m cells′) (sym e) k)
 
-  pub assign-moves : length cells ≡ 4160 → (y : ℕ) → getD s (at + 2) 0 ≡ 1 → y ≡ numberOf 2 (drop (at + 5) s) → Moved (stepBody (held (drop at s)) ρ) M.Go (set cells y w)
+  pub assign-moves : length cells ≡ 4160 → (y : ℕ) → getD s (at + 2) 0 ≡ 1 → y ≡ numberOf 2 (drop (at + 5) s)
+      → Moved (stepBody (held (drop at s)) ρ) M.Go (set cells y w)
   assign-moves long y k q =
       let a = h .assigns k in
-      by M.Go (set cells y w) (Assign (numberOf 2 (drop (at + 3) s)) (numberOf 2 (drop (at + 5) s)) (exprOf (h .statement))) (a .0)
-      (refl, ap₂ (λ y w. envOf (set cells y w)) q is-value ∙ update-set cells (numberOf 2 (drop (at + 5) s)) (value ρ (exprOf (h .statement))) (omega (arith, a .1)))
+      by M.Go (set cells y w) (Assign (numberOf 2 (drop (at + 3) s)) (numberOf 2 (drop (at + 5) s)) (exprOf (h .statement))) (a .0) (
+        refl,
+        ap₂ (λ y w. envOf (set cells y w)) q is-value
+            ∙ update-set cells (numberOf 2 (drop (at + 5) s)) (value ρ (exprOf (h .statement))) (omega (arith, a .1)),
+      )
 
   pub test-fails : (m : Move) (p : ℕ) → (getD s (at + 2) 0 ≡ 1 → ⊥) → w ≡ 0 → p ≡ numberOf 2 (drop (at + 3) s)
       → m ≡ endOf (Failed (kindOf (getD s (at + 2) 0)) p) → Moved (stepBody (held (drop at s)) ρ) m cells

@@ -20,7 +20,8 @@ use Rattle.trace.specs.Shown.{seen, leastAfter, mark, markedBy}
 
 -- ---- the array of marks follows the definition's state
 
-marked-readable : (S : ℕ) (marks : List Bool) (x : ℕ) → x < length marks → readable S (set marks x true) ≡ (λ y. eqb y x || readable S marks y)
+marked-readable : (S : ℕ) (marks : List Bool) (x : ℕ) → x < length marks
+    → readable S (set marks x true) ≡ (λ y. eqb y x || readable S marks y)
 marked-readable S marks x h = fun-ext (λ y. go y (eqb y x) refl)
   where
     go : (y : ℕ) (b : Bool) → eqb y x ≡ b → readable S (set marks x true) y ≡ b || readable S marks y
@@ -41,7 +42,9 @@ mark-length marks (Test k p e) = refl
 
 -- at first none is marked
 none-marked : (S n : ℕ) → seen S S (replicate n false) ≡ atFirst S
-none-marked S n = ap {B = Seen} (λ f. record { readable = f; least = S }) (fun-ext (λ y. ap (λ b. ltb y S || b) (same-everywhere n false y) ∙ or-false (ltb y S)))
+none-marked S n =
+    ap {B = Seen} (λ f. record { readable = f; least = S })
+    (fun-ext (λ y. ap (λ b. ltb y S || b) (same-everywhere n false y) ∙ or-false (ltb y S)))
 
 -- ---- the loop
 
@@ -52,13 +55,16 @@ pub record Walking (s : List ℕ) (S n : ℕ) (off₀ : List ℕ) (off : List �
 module _ (s : List ℕ) (S n : ℕ) (off₀ : List ℕ) where
   pub start : 6 ≤ length s → Walking s S n off₀ off₀ (replicate 4160 false) 6 0 S
   start h = record {
-    walk = subst (Records.Walking (stmt (S + 4096)) see s n (atFirst S) off₀ off₀ 6 0) (sym (none-marked S 4160)) (Records.start (stmt (S + 4096)) see s n (atFirst S) off₀ h);
+    walk =
+        subst (Records.Walking (stmt (S + 4096)) see s n (atFirst S) off₀ off₀ 6 0) (sym (none-marked S 4160))
+        (Records.start (stmt (S + 4096)) see s n (atFirst S) off₀ h);
     long = length-replicate 4160 false;
   }
 
   -- with the code's own length of the record, marks and least symbol
   pub on : S ≤ 64 → {off : List ℕ} {marks : List Bool} {at k least : ℕ} → Walking s S n off₀ off marks at k least → k < n
-      → (x : Stmt) → recordOf (stmt (S + 4096) (seen S least marks)) (drop at s) ≡ Good x → (len : ℕ) → len ≡ frame (drop at s) → at + (2 + len) ≤ length s
+      → (x : Stmt) → recordOf (stmt (S + 4096) (seen S least marks)) (drop at s) ≡ Good x → (len : ℕ) → len ≡ frame (drop at s)
+      → at + (2 + len) ≤ length s
       → (marks′ : List Bool) → marks′ ≡ markedBy (recordOf (stmt (S + 4096) (seen S least marks)) (drop at s)) marks
       → (least′ : ℕ) → least′ ≡ leastAfter (recordOf (stmt (S + 4096) (seen S least marks)) (drop at s)) least
       → Walking s S n off₀ (set off k at) marks′ (at + (2 + len)) (k + 1) least′
@@ -67,9 +73,12 @@ module _ (s : List ℕ) (S n : ℕ) (off₀ : List ℕ) where
       let small-enough : (p y : ℕ) (t : List Token) → x ≡ Assign p y t → y < length marks
       = λ p y t q. omega (arith, assigned-below (S + 4096) σ (drop at s) p y t (e ∙ ap {B = Body Stmt} Good q), w .long, small) in
       let walking : Walking s S n off₀ (set off k at) (mark marks x) (at + (2 + len)) (k + 1) (leastAfter (Good x) least) = record {
-        walk = subst (Records.Walking (stmt (S + 4096)) see s n (atFirst S) off₀ (set off k at) (at + (2 + len)) (k + 1)) (sym (seen-after S least marks x small-enough))
+        walk =
+            subst (Records.Walking (stmt (S + 4096)) see s n (atFirst S) off₀ (set off k at) (at + (2 + len)) (k + 1))
+            (sym (seen-after S least marks x small-enough))
             (Records.on (stmt (S + 4096)) see s n (atFirst S) off₀ (w .walk) h x e len le i);
         long = mark-length marks x ∙ w .long;
       } in
       subst (λ m. Walking s S n off₀ (set off k at) m (at + (2 + len)) (k + 1) least′) (sym (me ∙ ap (λ b. markedBy b marks) e))
-      (subst (Walking s S n off₀ (set off k at) (mark marks x) (at + (2 + len)) (k + 1)) (sym (se ∙ ap (λ b. leastAfter b least) e)) walking)
+      (subst (Walking s S n off₀ (set off k at) (mark marks x) (at + (2 + len)) (k + 1)) (sym (se ∙ ap (λ b. leastAfter b least) e))
+      walking)

@@ -158,11 +158,12 @@ copies x y = 0x00 ∷ 0x08 ∷ 0x01 ∷ 0x00 ∷ 0x00 ∷ 0x00 ∷ x ∷ 0x03 �
 abbrev one : (x : ℕ) → List ℕ
 one x = 0x00 ∷ 0x0A ∷ 0x01 ∷ 0x00 ∷ 0x00 ∷ 0x00 ∷ x ∷ 0x01 ∷ 0x00 ∷ 0x00 ∷ 0x00 ∷ 0x01 ∷ []
 
--- a spare byte at the end wins over an assert that fails first; an assume excuses only before the assert; symbols rise; a statement does not
--- read its own symbol
+-- a spare byte at the end wins over an assert that fails first; an assume excuses only before the assert; symbols rise; a statement does
+-- not read its own symbol
 sentences : (judgeAnswer (traceOf 16 1 fails) [] ≡ unsafeAt 7) × (judgeAnswer (traceOf 17 1 (fails ++ 0x00 ∷ [])) [] ≡ refusal 5 16)
     × (judgeAnswer (traceOf 26 2 (fails ++ excuses)) [] ≡ unsafeAt 7) × (judgeAnswer (traceOf 26 2 (excuses ++ fails)) [] ≡ safe)
-    × (judgeAnswer (traceOf 28 2 (one 1 ++ copies 2 1)) [] ≡ safe) × (judgeAnswer (traceOf 30 2 (one 1 ++ one 1)) [] ≡ refusal 6 18) × (judgeAnswer (traceOf 30 2 (one 1 ++ one 0)) [] ≡ refusal 6 18)
+    × (judgeAnswer (traceOf 28 2 (one 1 ++ copies 2 1)) [] ≡ safe) × (judgeAnswer (traceOf 30 2 (one 1 ++ one 1)) [] ≡ refusal 6 18)
+    × (judgeAnswer (traceOf 30 2 (one 1 ++ one 0)) [] ≡ refusal 6 18)
     × (judgeAnswer (traceOf 16 1 (copies 0 0)) [] ≡ refusal 7 6) × (judgeAnswer (traceOf 28 2 (one 1 ++ copies 2 0)) [] ≡ refusal 7 18)
 unfolding judgeAnswer readTrace readFile headerReply records recordOf frame stmt parseFrom readToken operator fits judge value unary binary
 sentences = (refl, refl, refl, refl, refl, refl, refl, refl, refl)
@@ -176,7 +177,8 @@ abbrev failsAtZero : List ℕ
 failsAtZero = 0x00 ∷ 0x08 ∷ 0x03 ∷ 0x00 ∷ 0x00 ∷ 0x01 ∷ 0x00 ∷ 0x00 ∷ 0x00 ∷ 0x00 ∷ []
 
 -- any word but zero is true; places are not checked, 65535 too, and need not rise; 0 is one like any other
-places : (judgeAnswer (traceOf 26 2 (testOf 3 0xFF 2 ++ testOf 3 0xFE 0)) [] ≡ unsafeAt 65534) × (judgeAnswer (traceOf 16 1 (testOf 3 0xFF 0)) [] ≡ unsafeAt 65535)
+places : (judgeAnswer (traceOf 26 2 (testOf 3 0xFF 2 ++ testOf 3 0xFE 0)) [] ≡ unsafeAt 65534)
+    × (judgeAnswer (traceOf 16 1 (testOf 3 0xFF 0)) [] ≡ unsafeAt 65535)
     × (judgeAnswer (traceOf 26 2 (testOf 2 0xFF 2 ++ testOf 3 0xFF 0)) [] ≡ unsafeAt 65535)
     × (judgeAnswer (traceOf 16 1 failsAtZero) [] ≡ unsafeAt 0)
 unfolding judgeAnswer readTrace readFile headerReply records recordOf frame stmt parseFrom readToken operator fits judge value

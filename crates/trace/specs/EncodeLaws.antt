@@ -17,7 +17,8 @@ use Rattle.file.specs.Outcome.{Assume, Assert, Bound}
 use Rattle.file.specs.File.{Good, Accepted, recordsBytes}
 use Rattle.file.specs.FileLaws.{Chain}
 use Rattle.file.specs.EncodeLaws.{file-same, field-written, file-written, records-written}
-use Rattle.trace.specs.Trace.{Stmt, Assign, Test, Seen, atFirst, see, assign, assignAt, testAt, stmt, stmts, readTrace, stmtBytes, encodeTrace}
+use Rattle.trace.specs.Trace.{Stmt, Assign, Test, Seen, atFirst, see, assign, assignAt, testAt, stmt, stmts, readTrace, stmtBytes}
+use Rattle.trace.specs.Trace.{encodeTrace}
 use Rattle.trace.specs.WellFormed.{StmtOk, StmtsOk}
 use Rattle.trace.specs.TraceLaws.{Says, says-assign, says-assume, says-assert, says}
 
@@ -38,8 +39,10 @@ stmt-same S σ (b ∷ bs) x o h = go x (says (S + 4096) σ (b ∷ bs) (omega ari
         (ap (λ y. bytesOf 2 (numberOf 2 bs) ++ (bytesOf 2 (numberOf 2 (drop 2 bs)) ++ y)) (expr 5 e p ∙ sym (drop-drop 2 2 bs))
         ∙ ap (λ y. bytesOf 2 (numberOf 2 bs) ++ y) (front (drop 2 bs) (all-drop Byte 2 bs (o .1)) (omega (arith, length-drop 2 bs)))
         ∙ front bs (o .1) (omega arith))
-    go x (says-assume e k l p) = ap₂ {C = List ℕ} (λ x y. x ∷ y) (sym k) (ap (λ y. bytesOf 2 (numberOf 2 bs) ++ y) (expr 3 e p) ∙ front bs (o .1) (omega arith))
-    go x (says-assert e k l p) = ap₂ {C = List ℕ} (λ x y. x ∷ y) (sym k) (ap (λ y. bytesOf 2 (numberOf 2 bs) ++ y) (expr 3 e p) ∙ front bs (o .1) (omega arith))
+    go x (says-assume e k l p) =
+        ap₂ {C = List ℕ} (λ x y. x ∷ y) (sym k) (ap (λ y. bytesOf 2 (numberOf 2 bs) ++ y) (expr 3 e p) ∙ front bs (o .1) (omega arith))
+    go x (says-assert e k l p) =
+        ap₂ {C = List ℕ} (λ x y. x ∷ y) (sym k) (ap (λ y. bytesOf 2 (numberOf 2 bs) ++ y) (expr 3 e p) ∙ front bs (o .1) (omega arith))
 
 -- a trace that is read, written again, is its bytes
 pub encode-read : (s : List ℕ) (S : ℕ) (ts : List Stmt) → All Byte s → readTrace s ≡ Accepted S ts → encodeTrace S ts ≡ s
@@ -54,8 +57,10 @@ stmt-written S few σ (Assign p x e) (a, b, c, d) =
     field-written 2 p (bytesOf 2 x ++ exprBytes Trace e) (assignAt (S + 4096) σ) a
     ∙ field-written 2 x (exprBytes Trace e) (assign (S + 4096) σ p) (omega arith)
     ∙ rw (le-leb (σ .least) x b, lt-ltb x (S + 4096) c, parse-written Trace (σ .readable) 0 e (d .0) (d .1))
-stmt-written S few σ (Test Assume p e) (a, b, d) = field-written 2 p (exprBytes Trace e) (testAt σ Assume) a ∙ rw (parse-written Trace (σ .readable) 0 e (d .0) (d .1))
-stmt-written S few σ (Test Assert p e) (a, b, d) = field-written 2 p (exprBytes Trace e) (testAt σ Assert) a ∙ rw (parse-written Trace (σ .readable) 0 e (d .0) (d .1))
+stmt-written S few σ (Test Assume p e) (a, b, d) =
+    field-written 2 p (exprBytes Trace e) (testAt σ Assume) a ∙ rw (parse-written Trace (σ .readable) 0 e (d .0) (d .1))
+stmt-written S few σ (Test Assert p e) (a, b, d) =
+    field-written 2 p (exprBytes Trace e) (testAt σ Assert) a ∙ rw (parse-written Trace (σ .readable) 0 e (d .0) (d .1))
 stmt-written S few σ (Test Bound p e) (a, b, d) = absurd b
 
 stmt-some : (x : Stmt) → 0 < length (stmtBytes x)
@@ -67,9 +72,11 @@ chain S σ [] o = tt
 chain S σ (x ∷ ts) o = (o .0, chain S (see σ x) ts (o .1))
 
 -- a trace that is written, read again, is the trace: for every well-formed one within the limits
-pub read-encode : (S : ℕ) (ts : List Stmt) → S ≤ 64 → length ts ≤ 4096 → 6 + length (recordsBytes stmtBytes ts) < 65536 → StmtsOk S (atFirst S) ts
+pub read-encode : (S : ℕ) (ts : List Stmt) → S ≤ 64 → length ts ≤ 4096 → 6 + length (recordsBytes stmtBytes ts) < 65536
+    → StmtsOk S (atFirst S) ts
     → readTrace (encodeTrace S ts) ≡ Accepted S ts
 unfolding readTrace
 read-encode S ts few count total o =
     file-written stmtBytes 129 4096 stmts S ts few count (omega arith) total
-    (records-written stmtBytes (stmt (S + 4096)) see (StmtOk S) stmt-some (stmt-written S few) (atFirst S) ts (chain S (atFirst S) ts o) (omega arith))
+    (records-written stmtBytes (stmt (S + 4096)) see (StmtOk S) stmt-some (stmt-written S few) (atFirst S) ts (chain S (atFirst S) ts o)
+    (omega arith))

@@ -17,7 +17,8 @@ use Rattle.expr.specs.ExprLaws.{parse-more}
 use Rattle.file.specs.Outcome.{Kind, Assume, Assert}
 use Rattle.file.specs.File.{headerInputs, Body, Good, Bad, field, frame, Read, recordOf, Accepted}
 use Rattle.file.specs.Shown.{offsetsFrom}
-use Rattle.file.specs.FileLaws.{Low, holding-low, cond-low, framed, record-framed, record-good, next-record, records-chain, file-is, field-there, field-good, rule-good, holding-good}
+use Rattle.file.specs.FileLaws.{Low, holding-low, cond-low, framed, record-framed, record-good, next-record, records-chain, file-is}
+use Rattle.file.specs.FileLaws.{field-there, field-good, rule-good, holding-good}
 use Rattle.trace.specs.Trace.{Stmt, Assign, Test, Seen, see, assign, assignAt, testAt, stmt, stmtsFrom, stmts, readTrace}
 use Rattle.trace.specs.Shown.{loose}
 
@@ -57,8 +58,10 @@ stmt-low top σ (k ∷ bs) =
     (cond-low (leb 2 (length (drop 2 bs))) _ _
     (cond-low (leb (σ .least) (numberOf 2 (drop 2 bs)) && ltb (numberOf 2 (drop 2 bs)) top) _ _
     (holding-low (Assign (numberOf 2 bs) (numberOf 2 (drop 2 bs))) (parse Trace (σ .readable) (drop 2 (drop 2 bs)))) six) five) five)
-    (cond-low (eqb k 2) _ _ (cond-low (leb 2 (length bs)) _ _ (holding-low (Test Assume (numberOf 2 bs)) (parse Trace (σ .readable) (drop 2 bs))) five)
-    (cond-low (eqb k 3) _ _ (cond-low (leb 2 (length bs)) _ _ (holding-low (Test Assert (numberOf 2 bs)) (parse Trace (σ .readable) (drop 2 bs))) five) five))
+    (cond-low (eqb k 2) _ _ (cond-low (leb 2 (length bs)) _ _
+    (holding-low (Test Assume (numberOf 2 bs)) (parse Trace (σ .readable) (drop 2 bs))) five)
+    (cond-low (eqb k 3) _ _ (cond-low (leb 2 (length bs)) _ _
+    (holding-low (Test Assert (numberOf 2 bs)) (parse Trace (σ .readable) (drop 2 bs))) five) five))
   where
     five : (5 ≤ 5) × (5 ≤ 7)
     five = omega arith
@@ -69,7 +72,8 @@ stmt-low top σ (k ∷ bs) =
 -- ---- what a record that is read says
 
 pub data Says (top : ℕ) (σ : Seen) (body : List ℕ) : Stmt → Type 0 where
-  says-assign : (e : List Token) → getD body 0 0 ≡ 1 → 5 ≤ length body → σ .least ≤ numberOf 2 (drop 3 body) → numberOf 2 (drop 3 body) < top
+  says-assign : (e : List Token) → getD body 0 0 ≡ 1 → 5 ≤ length body → σ .least ≤ numberOf 2 (drop 3 body)
+      → numberOf 2 (drop 3 body) < top
       → parse Trace (σ .readable) (drop 5 body) ≡ Whole e → Says top σ body (Assign (numberOf 2 (drop 1 body)) (numberOf 2 (drop 3 body)) e)
   says-assume : (e : List Token) → getD body 0 0 ≡ 2 → 3 ≤ length body → parse Trace (σ .readable) (drop 3 body) ≡ Whole e
       → Says top σ body (Test Assume (numberOf 2 (drop 1 body)) e)
@@ -95,7 +99,8 @@ module _ (top : ℕ) (σ : Seen) (body : List ℕ) (h : 0 < length body) where
       (ap (parse Trace (σ .readable)) (sym (drop-drop 2 3 body)) ∙ w .parsed))
 
   test-fields : (k : Kind) (x : Stmt) → field 2 (drop 1 body) (testAt σ k) ≡ Good x
-      → (3 ≤ length body) × ((e : List Token) × (parse Trace (σ .readable) (drop 3 body) ≡ Whole e) × (x ≡ Test k (numberOf 2 (drop 1 body)) e))
+      → (3 ≤ length body) × ((e : List Token) × (parse Trace (σ .readable) (drop 3 body) ≡ Whole e)
+      × (x ≡ Test k (numberOf 2 (drop 1 body)) e))
   test-fields k x q =
       let a = field-good 2 (drop 1 body) (testAt σ k) x q in
       let w = holding-good (Test k (numberOf 2 (drop 1 body))) (parse Trace (σ .readable) (drop 2 (drop 1 body))) x (a .1) in
@@ -107,7 +112,8 @@ module _ (top : ℕ) (σ : Seen) (body : List ℕ) (h : 0 < length body) where
       is : (v : ℕ) → eqb (getD body 0 0) v ≡ true → getD body 0 0 ≡ v
       is v e = eqb-true (getD body 0 0) v e
 
-      go : (a : Bool) → eqb (getD body 0 0) 1 ≡ a → (b : Bool) → eqb (getD body 0 0) 2 ≡ b → (c : Bool) → eqb (getD body 0 0) 3 ≡ c → Says top σ body x
+      go : (a : Bool) → eqb (getD body 0 0) 1 ≡ a → (b : Bool) → eqb (getD body 0 0) 2 ≡ b → (c : Bool) → eqb (getD body 0 0) 3 ≡ c
+          → Says top σ body x
       go true e b f c g = set-says x (is 1 e) (sym (kind-assign top σ body h (is 1 e)) ∙ q)
       go false e true f c g =
           let u = test-fields Assume x (sym (kind-assume top σ body h (is 2 f)) ∙ q) in
@@ -117,7 +123,8 @@ module _ (top : ℕ) (σ : Seen) (body : List ℕ) (h : 0 < length body) where
           subst (Says top σ body) (sym (u .1 .2)) (says-assert (u .1 .0) (is 3 g) (u .0) (u .1 .1))
       go false e false f false g =
           absurd (
-          let z = sym q ∙ kind-unknown top σ body h (eqb-false (getD body 0 0) 1 e) (eqb-false (getD body 0 0) 2 f) (eqb-false (getD body 0 0) 3 g) in
+          let z = sym q ∙ kind-unknown top σ body h (eqb-false (getD body 0 0) 1 e) (eqb-false (getD body 0 0) 2 f)
+          (eqb-false (getD body 0 0) 3 g) in
           let y : _≡_ {A = ℕ} 0 1 = cc in omega arith)
 
 -- and back
@@ -129,9 +136,11 @@ said top σ body x (says-assign e k l m n p) =
     ∙ field-there 2 (drop 3 body) (assign top σ (numberOf 2 (drop 1 body))) (omega (arith, length-drop 3 body))
     ∙ rw (le-leb (σ .least) (numberOf 2 (drop 3 body)) m, lt-ltb (numberOf 2 (drop 3 body)) top n, drop-drop 2 3 body, p)
 said top σ body x (says-assume e k l p) =
-    kind-assume top σ body (omega arith) k ∙ field-there 2 (drop 1 body) (testAt σ Assume) (omega (arith, length-drop 1 body)) ∙ rw (drop-drop 2 1 body, p)
+    kind-assume top σ body (omega arith) k ∙ field-there 2 (drop 1 body) (testAt σ Assume) (omega (arith, length-drop 1 body))
+    ∙ rw (drop-drop 2 1 body, p)
 said top σ body x (says-assert e k l p) =
-    kind-assert top σ body (omega arith) k ∙ field-there 2 (drop 1 body) (testAt σ Assert) (omega (arith, length-drop 1 body)) ∙ rw (drop-drop 2 1 body, p)
+    kind-assert top σ body (omega arith) k ∙ field-there 2 (drop 1 body) (testAt σ Assert) (omega (arith, length-drop 1 body))
+    ∙ rw (drop-drop 2 1 body, p)
 
 -- ---- where more is allowed, a record holds the same statement
 
@@ -140,7 +149,8 @@ pub record Wider (top : ℕ) (σ : Seen) (top′ : ℕ) (τ : Seen) : Type 0 whe
   pub lower : τ .least ≤ σ .least
   pub reads : (x : ℕ) → σ .readable x ≡ true → τ .readable x ≡ true
 
-pub record-wider : (top : ℕ) (σ : Seen) (top′ : ℕ) (τ : Seen) → Wider top σ top′ τ → (bs : List ℕ) (x : Stmt) → recordOf (stmt top σ) bs ≡ Good x → recordOf (stmt top′ τ) bs ≡ Good x
+pub record-wider : (top : ℕ) (σ : Seen) (top′ : ℕ) (τ : Seen) → Wider top σ top′ τ → (bs : List ℕ) (x : Stmt)
+    → recordOf (stmt top σ) bs ≡ Good x → recordOf (stmt top′ τ) bs ≡ Good x
 record-wider top σ top′ τ w bs x g =
     let k = record-good (stmt top σ) bs x g in
     let f = framed bs (k .0) in
@@ -157,7 +167,8 @@ record-wider top σ top′ τ w bs x g =
     go body x (says-assert e k l p) = says-assert e k l (more (drop 3 body) e p)
 
 -- an assigned symbol is below the top
-pub assigned-below : (top : ℕ) (σ : Seen) (bs : List ℕ) (p y : ℕ) (e : List Token) → recordOf (stmt top σ) bs ≡ Good (Assign p y e) → y < top
+pub assigned-below : (top : ℕ) (σ : Seen) (bs : List ℕ) (p y : ℕ) (e : List Token) → recordOf (stmt top σ) bs ≡ Good (Assign p y e)
+    → y < top
 assigned-below top σ bs p y e g =
     let k = record-good (stmt top σ) bs (Assign p y e) g in
     let f = framed bs (k .0) in
@@ -172,16 +183,21 @@ assigned-below top σ bs p y e g =
 -- ---- where a statement stands
 
 -- what a statement allows to those after it is within what every accepted statement keeps to
-pub wider-after : (top : ℕ) (σ : Seen) → Wider top σ 4160 loose → (bs : List ℕ) (x : Stmt) → recordOf (stmt top σ) bs ≡ Good x → Wider top (see σ x) 4160 loose
+pub wider-after : (top : ℕ) (σ : Seen) → Wider top σ 4160 loose → (bs : List ℕ) (x : Stmt) → recordOf (stmt top σ) bs ≡ Good x
+    → Wider top (see σ x) 4160 loose
 wider-after top σ w bs (Assign p x e) g = record {
   higher = w .higher;
   lower = omega arith;
-  reads = λ y q. or-cases (eqb y x) (σ .readable y) (λ z. lt-ltb y 4160 (omega (arith, eqb-true y x z, assigned-below top σ bs p x e g, w .higher))) (w .reads y) q;
+  reads =
+      λ y q. or-cases (eqb y x) (σ .readable y)
+      (λ z. lt-ltb y 4160 (omega (arith, eqb-true y x z, assigned-below top σ bs p x e g, w .higher))) (w .reads y) q;
 }
 wider-after top σ w bs (Test k p e) g = w
 
-pub stmt-at : (s : List ℕ) (S c at : ℕ) (σ : Seen) → Wider (S + 4096) σ 4160 loose → (ts : List Stmt) → stmtsFrom S c σ (drop at s) ≡ Read ts
-    → (i : ℕ) (x : Stmt) (xs : List Stmt) → drop i ts ≡ x ∷ xs → recordOf (stmt 4160 loose) (drop (getD (offsetsFrom c at (drop at s)) i 0) s) ≡ Good x
+pub stmt-at : (s : List ℕ) (S c at : ℕ) (σ : Seen) → Wider (S + 4096) σ 4160 loose → (ts : List Stmt)
+    → stmtsFrom S c σ (drop at s) ≡ Read ts
+    → (i : ℕ) (x : Stmt) (xs : List Stmt) → drop i ts ≡ x ∷ xs
+    → recordOf (stmt 4160 loose) (drop (getD (offsetsFrom c at (drop at s)) i 0) s) ≡ Good x
 unfolding offsetsFrom
 stmt-at s S zero at σ w ts h i x xs d =
     absurd (let k = records-chain (stmt (S + 4096)) see s (λ σ a. Unit {0}) (λ σ l m a q. tt) 0 at σ ts h in
@@ -194,7 +210,8 @@ stmt-at s S (suc c) at σ w ts h (suc i) x xs d =
     let k = next-record (stmt (S + 4096)) see s at c σ ts h in
     let l = 2 + frame (drop at s) in
     ap (λ bs. recordOf (stmt 4160 loose) (drop (getD (offsetsFrom c (at + l) bs) i 0) s)) (drop-drop l at s)
-    ∙ stmt-at s S c (at + l) (see σ (k .head)) (wider-after (S + 4096) σ w (drop at s) (k .head) (k .good)) (k .tail) (k .on) i x xs (sym (ap (drop (suc i)) (k .is)) ∙ d)
+    ∙ stmt-at s S c (at + l) (see σ (k .head)) (wider-after (S + 4096) σ w (drop at s) (k .head) (k .good)) (k .tail) (k .on) i x xs
+    (sym (ap (drop (suc i)) (k .is)) ∙ d)
 
 -- ---- the header
 

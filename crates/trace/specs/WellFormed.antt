@@ -64,7 +64,8 @@ trace-ok s S ts o h =
     let f = file-is 129 4096 stmts s S ts h in
     let g = header-is 129 4096 s (f .header) in
     let c = records-chain (stmt (S + 4096)) see s (StmtOk S)
-    (λ σ l m a q. stmt-ok S σ (take l (drop m s)) a (all-take Byte l (drop m s) (all-drop Byte m s o)) q) (headerCount s) 6 (atFirst S) ts (f .read) in
+    (λ σ l m a q. stmt-ok S σ (take l (drop m s)) a (all-take Byte l (drop m s) (all-drop Byte m s o)) q) (headerCount s) 6 (atFirst S) ts
+    (f .read) in
     let k : length ts ≡ headerCount s = c .1 in
     record { inputs = omega (arith, g .inputs, f .inputs); count = k; few = omega (arith, g .count); ok = each (atFirst S) ts (c .0) }
   where

@@ -48,8 +48,12 @@ fn body_reply(body: &[u8], inputs: usize, least: usize, assigned: &[bool]) -> u8
 
 // After the statement at a place: marks the symbol that it assigns, and gives the least that may be assigned then.
 fn learn(trace: &[u8], at: usize, inputs: usize, least: usize, assigned: &mut [bool]) -> usize
-    requires { ⌜ (at < 65536) × (inputs ≤ 64) × (length (now assigned) ≡ 4160) × (isGood (recordOf (stmt (inputs + 4096) (seen inputs least (now assigned))) (drop at (now trace))) ≡ true) ⌝ }
-    ensures { λ r. ⌜ (r ≡ leastAfter (recordOf (stmt (inputs + 4096) (seen inputs least (now (assigned .entry)))) (drop at (now (trace .entry)))) least) × (now (assigned .exit) ≡ markedBy (recordOf (stmt (inputs + 4096) (seen inputs least (now (assigned .entry)))) (drop at (now (trace .entry)))) (now (assigned .entry))) ⌝ }
+    requires { ⌜ (at < 65536) × (inputs ≤ 64) × (length (now assigned) ≡ 4160)
+        × (isGood (recordOf (stmt (inputs + 4096) (seen inputs least (now assigned))) (drop at (now trace))) ≡ true) ⌝ }
+    ensures { λ r. ⌜ (r ≡ leastAfter (recordOf (stmt (inputs + 4096) (seen inputs least (now (assigned .entry))))
+        (drop at (now (trace .entry)))) least)
+        × (now (assigned .exit) ≡ markedBy (recordOf (stmt (inputs + 4096) (seen inputs least (now (assigned .entry))))
+        (drop at (now (trace .entry)))) (now (assigned .entry))) ⌝ }
 {
     if trace[at + 2] == 1 {
         let symbol = number::two_at(trace, at + 5);
@@ -134,7 +138,8 @@ fn expr_start(kind: u8) -> usize
 
 // The expression of the record at a place.
 pub fn expr_at(trace: &[u8], at: usize) -> &[u8]
-    requires { ⌜ (at + (2 + numberOf 2 (drop at (now trace))) ≤ length (now trace)) × (exprStart (getD (now trace) (at + 2) 0) ≤ 2 + numberOf 2 (drop at (now trace))) ⌝ }
+    requires { ⌜ (at + (2 + numberOf 2 (drop at (now trace))) ≤ length (now trace))
+        × (exprStart (getD (now trace) (at + 2) 0) ≤ 2 + numberOf 2 (drop at (now trace))) ⌝ }
     ensures { λ r. ⌜ now r ≡ exprPart (now (trace .entry)) at ⌝ }
 {
     let kind = trace[at + 2];

@@ -52,23 +52,28 @@ module _ (S : ℕ) (is : List Instr) (K : ℕ) where
     pub rest-size : 18 + length (bytesAt (newestOf names S (S + 1)) (places is K)) ≡ traceSize is K
     rest-size = omega (arith, ap length records-are, records-size)
 
-    pub all-written : (n total count : ℕ) → length is ≡ n → total ≡ traceSize is K → count ≡ 1 + (K + 1) * (n + 1) → {out p q out′ : List ℕ} {a b to : ℕ} → total ≤ length out
-        → Wrote out 0 (header 129 total S count) p a → Wrote p a (recordBytes stmtBytes (opening S)) q b → Wrote q b rest out′ to → out′ ≡ over (encodeTrace S (unwind Assume S is K)) out
+    pub all-written : (n total count : ℕ) → length is ≡ n → total ≡ traceSize is K → count ≡ 1 + (K + 1) * (n + 1)
+        → {out p q out′ : List ℕ} {a b to : ℕ} → total ≤ length out
+        → Wrote out 0 (header 129 total S count) p a → Wrote p a (recordBytes stmtBytes (opening S)) q b → Wrote q b rest out′ to
+        → out′ ≡ over (encodeTrace S (unwind Assume S is K)) out
     unfolding encode
     all-written n total count l t c {out} fits v w x =
         let head : header 129 total S count ≡ header 129 (6 + length (recordsBytes stmtBytes ts)) S (length ts)
         = ap₂ (λ m k. header 129 m S k) (t ∙ sym records-size) (c ∙ sym (count-is n l)) in
-        let bytes : header 129 total S count ++ (recordBytes stmtBytes (opening S) ++ rest) ≡ encodeTrace S ts = ap₂ (λ h r. h ++ r) head records-are in
+        let bytes : header 129 total S count ++ (recordBytes stmtBytes (opening S) ++ rest) ≡ encodeTrace S ts = ap₂ (λ h r. h ++ r) head
+        records-are in
         let all : Wrote out 0 (encodeTrace S ts) _ _ = wrote-as bytes (v then w then x) in
         all .buffer ∙ splice-over (encodeTrace S ts) out (omega (arith, t, records-size))
 
 -- ---- the answer
 
 module _ (s out : List ℕ) (K : ℕ) where
-  answers : (q : Traced) → traceAnswer s K (length out) ≡ q → {out′ : List ℕ} {r : Answer} → r ≡ numbers q → out′ ≡ over (q .bytes) out → TraceWritten s K out out′ r
+  answers : (q : Traced) → traceAnswer s K (length out) ≡ q → {out′ : List ℕ} {r : Answer} → r ≡ numbers q → out′ ≡ over (q .bytes) out
+      → TraceWritten s K out out′ r
   answers q e k b = record { answer = k ∙ ap numbers (sym e); buffer = b ∙ ap (λ q. over (q .bytes) out) (sym e) }
 
-  pub table-refuses : (reply offset : ℕ) → readTable s ≡ Refused reply offset → {r : Answer} → r ≡ numbers (refusal reply offset) → TraceWritten s K out out r
+  pub table-refuses : (reply offset : ℕ) → readTable s ≡ Refused reply offset → {r : Answer} → r ≡ numbers (refusal reply offset)
+      → TraceWritten s K out out r
   unfolding traceAnswer
   table-refuses reply offset e k = answers (refusal reply offset) (ap (answered K (length out)) e) k refl
 
@@ -94,14 +99,17 @@ module _ (s out : List ℕ) (K : ℕ) where
       size-is total t = unwind-size Assume S is K ∙ sym t
 
       pub count-refuses : 4096 < 1 + (K + 1) * (n + 1) → {r : Answer} → r ≡ numbers (refusal 9 0) → TraceWritten s K out out r
-      count-refuses h k = answers (refusal 9 0) (bounded ∙ rw (lt-leb (length (unwind Assume S is K)) 4096 (omega (arith, count-is S is K n l)))) k refl
+      count-refuses h k =
+          answers (refusal 9 0) (bounded ∙ rw (lt-leb (length (unwind Assume S is K)) 4096 (omega (arith, count-is S is K n l)))) k refl
 
       module _ (fit : 1 + (K + 1) * (n + 1) ≤ 4096) (total : ℕ) (t : total ≡ traceSize is K) where
         counted : leb (length (unwind Assume S is K)) 4096 ≡ true
         counted = le-leb (length (unwind Assume S is K)) 4096 (omega (arith, count-is S is K n l))
 
         pub size-refuses : 65535 < total → {r : Answer} → r ≡ numbers (refusal 9 0) → TraceWritten s K out out r
-        size-refuses h k = answers (refusal 9 0) (bounded ∙ rw (counted, lt-leb (length (encodeTrace S (unwind Assume S is K))) 65535 (omega (arith, size-is total t)))) k refl
+        size-refuses h k =
+            answers (refusal 9 0) (bounded ∙ rw
+            (counted, lt-leb (length (encodeTrace S (unwind Assume S is K))) 65535 (omega (arith, size-is total t)))) k refl
 
         module _ (small : total ≤ 65535) where
           sized : leb (length (encodeTrace S (unwind Assume S is K))) 65535 ≡ true
@@ -109,11 +117,22 @@ module _ (s out : List ℕ) (K : ℕ) where
 
           pub room-refuses : length out < total → {r : Answer} → r ≡ numbers (refusal 10 0) → TraceWritten s K out out r
           room-refuses h k =
-              answers (refusal 10 0) (bounded ∙ rw (counted, sized, lt-leb (length (encodeTrace S (unwind Assume S is K))) (length out) (omega (arith, size-is total t)))) k refl
+              answers (refusal 10 0) (bounded
+              ∙ rw (
+                counted,
+                sized,
+                lt-leb (length (encodeTrace S (unwind Assume S is K))) (length out)
+                    (omega (arith, size-is total t)),
+              )) k refl
 
           pub trace-written : total ≤ length out → {out′ : List ℕ} → out′ ≡ over (encodeTrace S (unwind Assume S is K)) out
               → TraceWritten s K out out′ (record { reply = 0; offset = 0; length = total })
           trace-written h b =
               answers (record { reply = 0; offset = 0; bytes = encodeTrace S (unwind Assume S is K) })
-              (bounded ∙ rw (counted, sized, le-leb (length (encodeTrace S (unwind Assume S is K))) (length out) (omega (arith, size-is total t))))
+              (bounded ∙ rw (
+                counted,
+                sized,
+                le-leb (length (encodeTrace S (unwind Assume S is K))) (length out)
+                    (omega (arith, size-is total t)),
+              ))
               (ap {B = Answer} (λ m. record { reply = 0; offset = 0; length = m }) (sym (size-is total t))) b

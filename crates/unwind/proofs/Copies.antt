@@ -1,4 +1,5 @@
--- The loops over a copy's instructions and over the copies: what is written and what is left make the whole, and the symbols are the newest.
+-- The loops over a copy's instructions and over the copies: what is written and what is left make the whole, and the symbols are the
+-- newest.
 use Prim.Native.Nat.{ℕ, suc, _+_, _-_, _*_, _≤_, _<_}
 use native.Mathlib.Omega.{arith}
 use native.Mathlib.Nat.{suc-mul, sub-zero, mul-le-mul-right}
@@ -52,7 +53,8 @@ bytes-cons c p ps = ap (λ bs. bs ++ bytesAt (advance c p) ps) (sym (append-nil 
 
 places-append : (c : Newest) (ps qs : List Place) → bytesAt c (ps ++ qs) ≡ bytesAt c ps ++ bytesAt (after c ps) qs
 places-append c ps qs =
-    ap (recordsBytes stmtBytes) (statements-append Assume c ps qs) ∙ records-append stmtBytes (statements Assume c ps) (statements Assume (after c ps) qs)
+    ap (recordsBytes stmtBytes) (statements-append Assume c ps qs)
+    ∙ records-append stmtBytes (statements Assume c ps) (statements Assume (after c ps) qs)
 
 -- ---- one copy, from instruction i on
 
@@ -60,13 +62,22 @@ pub record InCopy (is : List Instr) (n K r : ℕ) (names₀ : List ℕ) (f₀ : 
   pub inside : i ≤ length is
   pub wide : length names ≡ length names₀
   pub fresh : g .next ≤ f₀ .next + i
-  pub wrote : Ahead out (g .to) (bytesAt (newestAt names g) (copyFrom n K r i (drop i is))) out₀ (f₀ .to) (bytesAt (newestAt names₀ f₀) (copyFrom n K r 0 is))
+  pub wrote : Ahead out (g .to) (bytesAt (newestAt names g) (copyFrom n K r i (drop i is))) out₀ (f₀ .to)
+      (bytesAt (newestAt names₀ f₀) (copyFrom n K r 0 is))
   pub newest : after (newestAt names g) (copyFrom n K r i (drop i is)) ≡ after (newestAt names₀ f₀) (copyFrom n K r 0 is)
 
 pub copy-start : (is : List Instr) (n K r : ℕ) (names : List ℕ) (f : Front) (out : List ℕ) → InCopy is n K r names f out names out 0 f
-copy-start is n K r names f out = record { inside = omega arith; wide = refl; fresh = omega arith; wrote = ahead-start _ _ _; newest = refl }
+copy-start is n K r names f out = record {
+  inside = omega arith;
+  wide = refl;
+  fresh = omega arith;
+  wrote = ahead-start _ _ _;
+  newest =
+      refl;
+}
 
-module _ {is : List Instr} {n K r : ℕ} {names₀ : List ℕ} {f₀ : Front} {out₀ names out : List ℕ} {i : ℕ} {g : Front} (v : InCopy is n K r names₀ f₀ out₀ names out i g) where
+module _ {is : List Instr} {n K r : ℕ} {names₀ : List ℕ} {f₀ : Front} {out₀ names out : List ℕ} {i : ℕ} {g : Front}
+    (v : InCopy is n K r names₀ f₀ out₀ names out i g) where
   abbrev c : Newest
   c = newestAt names g
 
@@ -80,13 +91,16 @@ module _ {is : List Instr} {n K r : ℕ} {names₀ : List ℕ} {f₀ : Front} {o
     split : bytesAt c (copyFrom n K r i (drop i is)) ≡ bytesAt c (p ∷ []) ++ bytesAt (advance c p) rest
     split = ap (λ ys. bytesAt c (copyFrom n K r i ys)) here ∙ bytes-cons c p rest
 
-    pub copy-room : f₀ .to + length (bytesAt (newestAt names₀ f₀) (copyFrom n K r 0 is)) ≤ length out₀ → g .to + length (bytesAt c (p ∷ [])) ≤ length out
+    pub copy-room : f₀ .to + length (bytesAt (newestAt names₀ f₀) (copyFrom n K r 0 is)) ≤ length out₀
+        → g .to + length (bytesAt c (p ∷ [])) ≤ length out
     copy-room l = omega (arith, ahead-room (v .wrote) l, ap length split ∙ length-append (bytesAt c (p ∷ [])) (bytesAt (advance c p) rest))
 
-    pub copy-on : (out′ names′ : List ℕ) (g′ : Front) → length names′ ≡ length names → Written c (p ∷ []) out (g .to) out′ names′ g′ → InCopy is n K r names₀ f₀ out₀ names′ out′ (i + 1) g′
+    pub copy-on : (out′ names′ : List ℕ) (g′ : Front) → length names′ ≡ length names → Written c (p ∷ []) out (g .to) out′ names′ g′
+        → InCopy is n K r names₀ f₀ out₀ names′ out′ (i + 1) g′
     copy-on out′ names′ g′ l w =
         let m : copyFrom n K r (i + 1) (drop (i + 1) is) ≡ rest = ap₂ (copyFrom n K r) (add-one i) (drop-next is i here) in
-        let a : bytesAt (newestAt names′ g′) (copyFrom n K r (i + 1) (drop (i + 1) is)) ≡ bytesAt (advance c p) rest = ap₂ bytesAt (w .newest) m in
+        let a : bytesAt (newestAt names′ g′) (copyFrom n K r (i + 1) (drop (i + 1) is)) ≡ bytesAt (advance c p) rest =
+        ap₂ bytesAt (w .newest) m in
         record {
           inside = omega (arith, ap length here, length-drop i is);
           wide = l ∙ v .wide;
@@ -113,21 +127,28 @@ module _ {is : List Instr} {n K r : ℕ} {names₀ : List ℕ} {f₀ : Front} {o
         )
 
     pub copy-end : (j goal : ℕ) → j ≡ r * (n + 1) + n → goal ≡ (K + 1) * (n + 1) → (out′ : List ℕ) (to′ : ℕ)
-        → Wrote out (g .to) (recordBytes stmtBytes (T.Assign j (g .next) (guarded (g .control) j (Const goal ∷ []) (Symbol (g .control))))) out′ to′
-        → Written (newestAt names₀ f₀) (copyFrom n K r 0 is) out₀ (f₀ .to) out′ names (record { control = g .next; next = g .next + 1; to = to′ })
+        → Wrote out (g .to) (recordBytes stmtBytes (T.Assign j (g .next) (guarded (g .control) j (Const goal ∷ []) (Symbol (g .control)))))
+        out′ to′
+        → Written (newestAt names₀ f₀) (copyFrom n K r 0 is) out₀ (f₀ .to) out′ names
+        (record { control = g .next; next = g .next + 1; to = to′ })
     copy-end j goal a b out′ to′ w =
         let x : j ≡ placeIn n r n = a ∙ place-is n n r in
         let y : goal ≡ endOf n K = b ∙ ap₂ (λ s t. s * t) (add-one K) (add-one n) in
         let z : Wrote out (g .to) (recordBytes stmtBytes (statement Assume c (At (placeIn n r n) (Exit (endOf n K))))) out′ to′
-        = wrote-as (ap (recordBytes stmtBytes) (λ u. T.Assign (x u) (g .next) (guarded (g .control) (x u) (Const (y u) ∷ []) (Symbol (g .control))))) w in
+        =
+        wrote-as (ap (recordBytes stmtBytes)
+        (λ u. T.Assign (x u) (g .next) (guarded (g .control) (x u) (Const (y u) ∷ []) (Symbol (g .control))))) w in
         record {
           wrote = ahead-end (ahead-step (v .wrote) (ap (bytesAt c) only) z) refl;
-          newest = (λ u. record { current = (newestAt names g) .current; control = g .next; next = add-one (g .next) u }) ∙ sym (ap (after c) only) ∙ v .newest;
+          newest =
+              (λ u. record { current = (newestAt names g) .current; control = g .next; next = add-one (g .next) u })
+              ∙ sym (ap (after c) only) ∙ v .newest;
         }
 
 -- ---- a table that is accepted
 
-module _ (s off : List ℕ) (n : ℕ) (o : All Byte s) (ready : Ready s off n) {K r : ℕ} {names₀ : List ℕ} {f₀ : Front} {out₀ names out : List ℕ} {i : ℕ} {g : Front}
+module _ (s off : List ℕ) (n : ℕ) (o : All Byte s) (ready : Ready s off n) {K r : ℕ} {names₀ : List ℕ} {f₀ : Front}
+    {out₀ names out : List ℕ} {i : ℕ} {g : Front}
     (v : InCopy (listed (readTable s)) n K r names₀ f₀ out₀ names out i g) (l : headerInputs s ≤ length names₀) (h : i < n) where
   abbrev rec : Body Instr
   rec = recordOf (instr (length names) n) (drop (getD off i 0) s)
@@ -141,12 +162,14 @@ module _ (s off : List ℕ) (n : ℕ) (o : All Byte s) (ready : Ready s off n) {
   pub readable : isGood rec ≡ true
   readable = ap isGood (at-hand .good)
 
-  pub room-here : f₀ .to + length (bytesAt (newestAt names₀ f₀) (copyFrom n K r 0 (listed (readTable s)))) ≤ length out₀ → g .to + length (bytesAt (newestAt names g) (placeOf n K r i rec ∷ [])) ≤ length out
+  pub room-here : f₀ .to + length (bytesAt (newestAt names₀ f₀) (copyFrom n K r 0 (listed (readTable s)))) ≤ length out₀
+      → g .to + length (bytesAt (newestAt names g) (placeOf n K r i rec ∷ [])) ≤ length out
   room-here k =
       subst (λ p. g .to + length (bytesAt (newestAt names g) (p ∷ [])) ≤ length out) (sym place-here)
       (copy-room v (at-hand .instruction) (at-hand .after) (at-hand .is-here) k)
 
-  pub place-on : (out′ names′ : List ℕ) (g′ : Front) → length names′ ≡ length names → Written (newestAt names g) (placeOf n K r i rec ∷ []) out (g .to) out′ names′ g′
+  pub place-on : (out′ names′ : List ℕ) (g′ : Front) → length names′ ≡ length names → Written (newestAt names g) (placeOf n K r i rec ∷ [])
+      out (g .to) out′ names′ g′
       → InCopy (listed (readTable s)) n K r names₀ f₀ out₀ names′ out′ (i + 1) g′
   place-on out′ names′ g′ k w =
       copy-on v (at-hand .instruction) (at-hand .after) (at-hand .is-here) out′ names′ g′ k
@@ -158,38 +181,56 @@ pub record InCopies (is : List Instr) (n K : ℕ) (names₀ : List ℕ) (f₀ : 
   pub few : r ≤ suc K
   pub wide : length names ≡ length names₀
   pub fresh : g .next ≤ f₀ .next + r * (n + 1)
-  pub wrote : Ahead out (g .to) (bytesAt (newestAt names g) (copiesFrom is K (suc K - r) r)) out₀ (f₀ .to) (bytesAt (newestAt names₀ f₀) (places is K))
+  pub wrote : Ahead out (g .to) (bytesAt (newestAt names g) (copiesFrom is K (suc K - r) r)) out₀ (f₀ .to)
+      (bytesAt (newestAt names₀ f₀) (places is K))
 
 pub copies-start : (is : List Instr) (n K : ℕ) (names : List ℕ) (f : Front) (out : List ℕ) → InCopies is n K names f out names out 0 f
 unfolding places
 copies-start is n K names f out = record { few = omega arith; wide = refl; fresh = omega arith; wrote = rw sub-zero (ahead-start _ _ _) }
 
-module _ {is : List Instr} {n K : ℕ} (q : length is ≡ n) {names₀ : List ℕ} {f₀ : Front} {out₀ names out : List ℕ} {r : ℕ} {g : Front} (v : InCopies is n K names₀ f₀ out₀ names out r g) where
+module _ {is : List Instr} {n K : ℕ} (q : length is ≡ n) {names₀ : List ℕ} {f₀ : Front} {out₀ names out : List ℕ} {r : ℕ} {g : Front}
+    (v : InCopies is n K names₀ f₀ out₀ names out r g) where
   module _ (h : r ≤ K) where
     abbrev c₁ : Newest
     c₁ = newestAt names g
 
-    copies-split : bytesAt c₁ (copiesFrom is K (suc K - r) r) ≡ bytesAt c₁ (copyFrom n K r 0 is) ++ bytesAt (after c₁ (copyFrom n K r 0 is)) (copiesFrom is K (suc K - (r + 1)) (r + 1))
+    copies-split : bytesAt c₁ (copiesFrom is K (suc K - r) r) ≡ bytesAt c₁ (copyFrom n K r 0 is) ++ bytesAt
+        (after c₁ (copyFrom n K r 0 is)) (copiesFrom is K (suc K - (r + 1)) (r + 1))
     copies-split =
         ap (λ m. bytesAt c₁ (copiesFrom is K m r)) (let z : suc K - r ≡ suc (suc K - (r + 1)) = omega arith in z)
         ∙ ap₂ (λ m k. bytesAt c₁ (copyFrom m K r 0 is ++ copiesFrom is K (suc K - (r + 1)) k)) q (sym (add-one r))
         ∙ places-append c₁ (copyFrom n K r 0 is) (copiesFrom is K (suc K - (r + 1)) (r + 1))
 
-    pub copies-room : f₀ .to + length (bytesAt (newestAt names₀ f₀) (places is K)) ≤ length out₀ → g .to + length (bytesAt c₁ (copyFrom n K r 0 is)) ≤ length out
+    pub copies-room : f₀ .to + length (bytesAt (newestAt names₀ f₀) (places is K)) ≤ length out₀
+        → g .to + length (bytesAt c₁ (copyFrom n K r 0 is)) ≤ length out
     copies-room l =
         omega (
           arith,
           ahead-room (v .wrote) l,
-          ap length copies-split ∙ length-append (bytesAt c₁ (copyFrom n K r 0 is)) (bytesAt (after c₁ (copyFrom n K r 0 is)) (copiesFrom is K (suc K - (r + 1)) (r + 1))),
+          ap length copies-split ∙ length-append (bytesAt c₁ (copyFrom n K r 0 is))
+              (bytesAt (after c₁ (copyFrom n K r 0 is)) (copiesFrom is K (suc K - (r + 1)) (r + 1))),
         )
 
-    pub copies-on : (out′ names′ : List ℕ) (g′ : Front) → length names′ ≡ length names → Written c₁ (copyFrom n K r 0 is) out (g .to) out′ names′ g′ → InCopies is n K names₀ f₀ out₀ names′ out′ (r + 1) g′
+    pub copies-on : (out′ names′ : List ℕ) (g′ : Front) → length names′ ≡ length names
+        → Written c₁ (copyFrom n K r 0 is) out (g .to) out′ names′ g′ → InCopies is n K names₀ f₀ out₀ names′ out′ (r + 1) g′
     copies-on out′ names′ g′ l w = record {
       few = omega arith;
       wide = l ∙ v .wide;
-      fresh = omega (arith, v .fresh, ap (λ c. c .next) (w .newest), after-next c₁ (copyFrom n K r 0 is), copy-count n K r 0 is, q, suc-mul r (n + 1), ap (λ x. x * (n + 1)) (add-one r));
+      fresh =
+          omega (
+            arith,
+            v .fresh,
+            ap (λ c. c .next) (w .newest),
+            after-next c₁ (copyFrom n K r 0 is),
+            copy-count n K r 0 is,
+            q,
+            suc-mul r
+                (n + 1),
+            ap (λ x. x * (n + 1)) (add-one r),
+          );
       wrote = ahead-step (v .wrote)
-          (copies-split ∙ ap (λ c. bytesAt c₁ (copyFrom n K r 0 is) ++ bytesAt c (copiesFrom is K (suc K - (r + 1)) (r + 1))) (sym (w .newest))) (w .wrote);
+          (copies-split ∙ ap (λ c. bytesAt c₁ (copyFrom n K r 0 is) ++ bytesAt c (copiesFrom is K (suc K - (r + 1)) (r + 1)))
+          (sym (w .newest))) (w .wrote);
     }
 
   pub copies-end : K < r → Wrote out₀ (f₀ .to) (bytesAt (newestAt names₀ f₀) (places is K)) out (g .to)

@@ -43,7 +43,8 @@ module _ {f : ℕ → ℕ} {e : List ℕ} {i n : ℕ} {bs : List ℕ} (k : Is f 
   pub token-room : (at m : ℕ) → at + length (renamedBytes f (readToken Table (drop i e))) ≤ m → at + length bs ≤ m
   token-room at m h = omega (arith, ap length (k .bytes))
 
-  pub token-wrote : {o p : List ℕ} {at to : ℕ} → Wrote o at bs p to → (n ≡ sizeOf Table (readToken Table (drop i e))) × Wrote o at (renamedBytes f (readToken Table (drop i e))) p to
+  pub token-wrote : {o p : List ℕ} {at to : ℕ} → Wrote o at bs p to → (n ≡ sizeOf Table (readToken Table (drop i e)))
+      × Wrote o at (renamedBytes f (readToken Table (drop i e))) p to
   token-wrote w = (k .size, wrote-as (sym (k .bytes)) w)
 
 operator-bytes : (f : ℕ → ℕ) (t : Token) → IsOperator t → tokenBytes Trace (renameToken f t) ≡ code Table t ∷ []
@@ -78,7 +79,9 @@ module _ (S : ℕ) (e : List ℕ) (i : ℕ) (h : i < length e) (st : Stands Tabl
         let k = operator-stands Table (below S) (st .0) e i h (st .1) a b in
         record {
           size = k .one-byte;
-          bytes = ap (renamedBytes f) (k .is ∙ k .named) ∙ operator-bytes f (k .token) (k .coded .1) ∙ ap {B = List ℕ} (λ b. b ∷ []) (sym (k .coded .0));
+          bytes =
+              ap (renamedBytes f) (k .is ∙ k .named) ∙ operator-bytes f (k .token) (k .coded .1)
+              ∙ ap {B = List ℕ} (λ b. b ∷ []) (sym (k .coded .0));
         }
 
     -- its bytes in the table and in the trace
@@ -93,10 +96,16 @@ module _ (S : ℕ) (e : List ℕ) (i : ℕ) (h : i < length e) (st : Stands Tabl
         spans : (n : ℕ) (bs : List ℕ) → Is f e i n bs → (s : Span) → s .here ≡ n → s .there ≡ length bs → s .there ≤ 2 * s .here → Spans s
         spans n bs k s a b c = record { here = a ∙ k .size; there = b ∙ sym (ap length (k .bytes)); little = c }
 
-        go : (x : Bool) → eqb (getD e i 0) 1 ≡ x → (y : Bool) → eqb (getD e i 0) 2 ≡ y → Spans (cond x (record { here = 5; there = 5 }) (cond y (record { here = 2; there = 3 }) (record { here = 1; there = 1 })))
-        go true a y b = spans 5 (tokenBytes Trace (Const (numberOf 4 (drop (i + 1) e)))) (constant-is (eqb-true (getD e i 0) 1 a) _ refl) _ refl refl (omega arith)
-        go false a true b = spans 2 (tokenBytes Trace (Symbol (f (numberOf 1 (drop (i + 1) e))))) (symbol-is (eqb-true (getD e i 0) 2 b) _ refl) _ refl refl (omega arith)
-        go false a false b = spans 1 (getD e i 0 ∷ []) (operator-token (eqb-false (getD e i 0) 1 a) (eqb-false (getD e i 0) 2 b)) _ refl refl (omega arith)
+        go : (x : Bool) → eqb (getD e i 0) 1 ≡ x → (y : Bool) → eqb (getD e i 0) 2 ≡ y
+            → Spans (cond x (record { here = 5; there = 5 }) (cond y (record { here = 2; there = 3 }) (record { here = 1; there = 1 })))
+        go true a y b =
+            spans 5 (tokenBytes Trace (Const (numberOf 4 (drop (i + 1) e)))) (constant-is (eqb-true (getD e i 0) 1 a) _ refl) _ refl refl
+            (omega arith)
+        go false a true b =
+            spans 2 (tokenBytes Trace (Symbol (f (numberOf 1 (drop (i + 1) e))))) (symbol-is (eqb-true (getD e i 0) 2 b) _ refl) _ refl
+            refl (omega arith)
+        go false a false b =
+            spans 1 (getD e i 0 ∷ []) (operator-token (eqb-false (getD e i 0) 1 a) (eqb-false (getD e i 0) 2 b)) _ refl refl (omega arith)
 
 -- ---- the rest of an expression, in the trace
 
@@ -112,15 +121,18 @@ pub turned-size : {S : ℕ} {e : List ℕ} {i : ℕ} {v : Rest Table S e i} {m :
 turned-size {e = e} {i = i} {v = v} t f =
     let here = renamedBytes f (readToken Table (drop i e)) in
     let rest = exprBytes Trace (rename f (tokens (t .then))) in
-    sym (size-rename f (tokens v)) ∙ ap length (rest-split t f) ∙ length-append here rest ∙ ap (λ n. length here + n) (size-rename f (tokens (t .then)))
+    sym (size-rename f (tokens v)) ∙ ap length (rest-split t f) ∙ length-append here rest
+    ∙ ap (λ n. length here + n) (size-rename f (tokens (t .then)))
 
 -- ---- the loop that writes
 
 pub record Putting (e names out₀ : List ℕ) (at : ℕ) (out : List ℕ) (i to : ℕ) : Type 0 where
   pub rest : Rest Table (length names) e i
-  pub wrote : Ahead out to (exprBytes Trace (rename (currentOf names) (tokens rest))) out₀ at (exprBytes Trace (rename (currentOf names) (tokensOf (parse Table (below (length names)) e))))
+  pub wrote : Ahead out to (exprBytes Trace (rename (currentOf names) (tokens rest))) out₀ at
+      (exprBytes Trace (rename (currentOf names) (tokensOf (parse Table (below (length names)) e))))
 
-pub putting-start : (e names out : List ℕ) (at : ℕ) → isWhole (parse Table (below (length names)) e) ≡ true → Putting e names out at out 0 at
+pub putting-start : (e names out : List ℕ) (at : ℕ) → isWhole (parse Table (below (length names)) e) ≡ true
+    → Putting e names out at out 0 at
 putting-start e names out at h = record { rest = rest-start Table (length names) e h; wrote = ahead-start _ _ _ }
 
 module _ {e names out₀ : List ℕ} {at : ℕ} {out : List ℕ} {i to : ℕ} (v : Putting e names out₀ at out i to) where
@@ -129,7 +141,8 @@ module _ {e names out₀ : List ℕ} {at : ℕ} {out : List ℕ} {i to : ℕ} (v
     next = turn (v .rest) h (sizeOf Table (readToken Table (drop i e))) refl
 
     -- there is room for the token
-    pub putting-room : at + exprSize (tokensOf (parse Table (below (length names)) e)) ≤ length out₀ → to + length (renamedBytes (currentOf names) (readToken Table (drop i e))) ≤ length out
+    pub putting-room : at + exprSize (tokensOf (parse Table (below (length names)) e)) ≤ length out₀
+        → to + length (renamedBytes (currentOf names) (readToken Table (drop i e))) ≤ length out
     putting-room r =
         let f = currentOf names in
         let a = ahead-room (v .wrote) (rw size-rename r) in
@@ -139,12 +152,20 @@ module _ {e names out₀ : List ℕ} {at : ℕ} {out : List ℕ} {i to : ℕ} (v
       pub some-byte : 1 ≤ m
       pub then : Putting e names out₀ at out′ (i + m) to′
 
-    pub put-on : {out′ : List ℕ} {m to′ : ℕ} → (m ≡ sizeOf Table (readToken Table (drop i e))) × Wrote out to (renamedBytes (currentOf names) (readToken Table (drop i e))) out′ to′ → PutOn out′ m to′
+    pub put-on : {out′ : List ℕ} {m to′ : ℕ} → (m ≡ sizeOf Table (readToken Table (drop i e)))
+        × Wrote out to (renamedBytes (currentOf names) (readToken Table (drop i e))) out′ to′ → PutOn out′ m to′
     put-on {out′} {m} {to′} (q, w) =
         let t = turn (v .rest) h m q in
-        record { some-byte = t .some-byte; then = record { rest = t .then; wrote = ahead-step (v .wrote) (rest-split t (currentOf names)) w } }
+        record {
+          some-byte = t .some-byte;
+          then = record {
+            rest = t .then;
+            wrote = ahead-step (v .wrote) (rest-split t (currentOf names)) w;
+          };
+        }
 
-  pub put-all : length e ≤ i → Wrote out₀ at (exprBytes Trace (rename (currentOf names) (tokensOf (parse Table (below (length names)) e)))) out to
+  pub put-all : length e ≤ i → Wrote out₀ at (exprBytes Trace (rename (currentOf names) (tokensOf (parse Table (below (length names)) e))))
+      out to
   put-all h = ahead-end (v .wrote) (ap (λ ts. exprBytes Trace (rename (currentOf names) ts)) (rest-end (v .rest) h))
 
 -- ---- the loop that measures
@@ -164,11 +185,17 @@ module _ {e : List ℕ} {i size : ℕ} (v : Measuring e i size) where
 
   pub measure-on : i < length e → (s : Span) → s ≡ spanOf (getD e i 0) → MeasureOn (s .here) (s .there)
   measure-on h s q =
-      let k : Spans 64 e i h (stands (v .rest) h) (λ x. x) s = subst (Spans 64 e i h (stands (v .rest) h) (λ x. x)) (sym q) (span-is 64 e i h (stands (v .rest) h) (λ x. x)) in
+      let k : Spans 64 e i h (stands (v .rest) h) (λ x. x) s = subst (Spans 64 e i h (stands (v .rest) h) (λ x. x)) (sym q)
+      (span-is 64 e i h (stands (v .rest) h) (λ x. x)) in
       let t = turn (v .rest) h (s .here) (k .here) in
       record {
         some-byte = t .some-byte;
-        then = record { rest = t .then; little = omega (arith, v .little, k .little); sum = omega (arith, v .sum, k .there, turned-size t (λ x. x)) };
+        then = record {
+          rest = t .then;
+          little = omega (arith, v .little, k .little);
+          sum =
+              omega (arith, v .sum, k .there, turned-size t (λ x. x));
+        };
       }
 
   pub measured : length e ≤ i → size ≡ exprSize (tokensOf (parse Table known e))

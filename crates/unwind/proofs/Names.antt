@@ -24,7 +24,8 @@ naming-on names s v h = record {
 }
   where
     go : (x : ℕ) → x < s + 1 → (b : Bool) → eqb x s ≡ b → currentOf (set names s s) x ≡ x
-    go x l true e = ap (currentOf (set names s s)) (eqb-true x s e) ∙ getD-set-same names s s s (omega (arith, v .long)) ∙ sym (eqb-true x s e)
+    go x l true e =
+        ap (currentOf (set names s s)) (eqb-true x s e) ∙ getD-set-same names s s s (omega (arith, v .long)) ∙ sym (eqb-true x s e)
     go x l false e =
         let d : x ≡ s → ⊥ = eqb-false x s e in
         getD-set-other names s x s x d ∙ v .named x (omega (arith, d))

@@ -28,7 +28,8 @@ closes x {p = p} {at = at} {end = end} w e (k, h) =
     behind at (bytesOf 2 (length (stmtBytes x))) refl (rw (← e) at w) (h ∙ ap (λ n. splice at (bytesOf 2 n) p) l) k
 
 pub guarded-bytes : (w j : ℕ) (body : List Token) (old : Token)
-    → exprBytes Trace (guarded w j body old) ≡ exprBytes Trace (Symbol w ∷ Const j ∷ Bin Ule ∷ []) ++ (exprBytes Trace body ++ exprBytes Trace (old ∷ Ite ∷ []))
+    → exprBytes Trace (guarded w j body old) ≡ exprBytes Trace (Symbol w ∷ Const j ∷ Bin Ule ∷ [])
+    ++ (exprBytes Trace body ++ exprBytes Trace (old ∷ Ite ∷ []))
 guarded-bytes w j body old = bytes-append Trace (Symbol w ∷ Const j ∷ Bin Ule ∷ body) (old ∷ Ite ∷ [])
 
 -- ---- records by their parts
@@ -39,19 +40,24 @@ module _ (w j : ℕ) (e : List Token) where
   guard = exprBytes Trace (Symbol w ∷ Const j ∷ Bin Ule ∷ [])
 
   pub assign-bytes : (x : ℕ) (old : Token)
-      → stmtBytes (Assign j x (guarded w j e old)) ≡ (1 ∷ bytesOf 2 j ++ bytesOf 2 x) ++ (guard ++ (exprBytes Trace e ++ exprBytes Trace (old ∷ Ite ∷ [])))
+      → stmtBytes (Assign j x (guarded w j e old)) ≡ (1 ∷ bytesOf 2 j ++ bytesOf 2 x)
+      ++ (guard ++ (exprBytes Trace e ++ exprBytes Trace (old ∷ Ite ∷ [])))
   assign-bytes x old = ap (λ bs. (1 ∷ bytesOf 2 j ++ bytesOf 2 x) ++ bs) (guarded-bytes w j e old)
 
   pub jump-bytes : (x goal : ℕ) → stmtBytes (Assign j x (guarded w j (e ++ Const goal ∷ Symbol w ∷ Ite ∷ []) (Symbol w)))
-      ≡ (1 ∷ bytesOf 2 j ++ bytesOf 2 x) ++ (guard ++ (exprBytes Trace e ++ (tokenBytes Trace (Const goal) ++ (exprBytes Trace (Symbol w ∷ Ite ∷ []) ++ exprBytes Trace (Symbol w ∷ Ite ∷ [])))))
+      ≡ (1 ∷ bytesOf 2 j ++ bytesOf 2 x) ++ (guard
+      ++ (exprBytes Trace e ++ (tokenBytes Trace (Const goal)
+      ++ (exprBytes Trace (Symbol w ∷ Ite ∷ []) ++ exprBytes Trace (Symbol w ∷ Ite ∷ [])))))
   jump-bytes x goal =
       ap (λ bs. (1 ∷ bytesOf 2 j ++ bytesOf 2 x) ++ bs)
       (guarded-bytes w j (e ++ Const goal ∷ Symbol w ∷ Ite ∷ []) (Symbol w)
       ∙ ap (λ bs. guard ++ (bs ++ exprBytes Trace (Symbol w ∷ Ite ∷ []))) (bytes-append Trace e (Const goal ∷ Symbol w ∷ Ite ∷ []))
-      ∙ ap (λ bs. guard ++ bs) (append-assoc (exprBytes Trace e) (exprBytes Trace (Const goal ∷ Symbol w ∷ Ite ∷ [])) (exprBytes Trace (Symbol w ∷ Ite ∷ []))))
+      ∙ ap (λ bs. guard ++ bs) (append-assoc (exprBytes Trace e) (exprBytes Trace (Const goal ∷ Symbol w ∷ Ite ∷ []))
+      (exprBytes Trace (Symbol w ∷ Ite ∷ []))))
 
   pub test-bytes : (kind : ℕ) → 2 ≤ kind → kind ≤ 3
-      → stmtBytes (Test (kindOf kind) j (guarded w j e (Const 1))) ≡ (kind ∷ bytesOf 2 j) ++ (guard ++ (exprBytes Trace e ++ exprBytes Trace (Const 1 ∷ Ite ∷ [])))
+      → stmtBytes (Test (kindOf kind) j (guarded w j e (Const 1))) ≡ (kind ∷ bytesOf 2 j)
+      ++ (guard ++ (exprBytes Trace e ++ exprBytes Trace (Const 1 ∷ Ite ∷ [])))
   test-bytes kind l h =
       ap (λ k. (k ∷ bytesOf 2 j) ++ exprBytes Trace (guarded w j e (Const 1))) (code (eqb kind 3) refl)
       ∙ ap (λ bs. (kind ∷ bytesOf 2 j) ++ bs) (guarded-bytes w j e (Const 1))

@@ -53,7 +53,8 @@ current-set names s v h = fun-ext (λ x. go x (eqb x s) refl)
 
 -- ---- one place
 
-pub written-one : {c : Newest} {p : Place} {out : List ℕ} {to : ℕ} {out′ names′ : List ℕ} {f : Front} → Wrote out to (recordBytes stmtBytes (statement Assume c p)) out′ (f .to)
+pub written-one : {c : Newest} {p : Place} {out : List ℕ} {to : ℕ} {out′ names′ : List ℕ} {f : Front}
+    → Wrote out to (recordBytes stmtBytes (statement Assume c p)) out′ (f .to)
     → newestOf names′ (f .control) (f .next) ≡ advance c p → Written c (p ∷ []) out to out′ names′ f
 written-one {c} {p} w e = record { wrote = wrote-as (sym (append-nil (recordBytes stmtBytes (statement Assume c p)))) w; newest = e }
 
@@ -75,7 +76,8 @@ module _ {n : ℕ} {s : List ℕ} {at : ℕ} (names : List ℕ) (h : Held (lengt
   e = exprOf (h .instruction)
 
   -- the room for an instruction, by its form
-  room-for : (x : Instr) → h .instruction ≡ x → (to m : ℕ) → to + length (recordsBytes stmtBytes (statements Assume c (placeOf n K r i rec ∷ []))) ≤ m
+  room-for : (x : Instr) → h .instruction ≡ x → (to m : ℕ)
+      → to + length (recordsBytes stmtBytes (statements Assume c (placeOf n K r i rec ∷ []))) ≤ m
       → to + instrSize (not (ltb r K)) i x ≤ m
   room-for x q to m l =
       let a : length (recordsBytes stmtBytes (statements Assume c (placeOf n K r i rec ∷ []))) ≡ instrSize (not (ltb r K)) i x
@@ -85,11 +87,14 @@ module _ {n : ℕ} {s : List ℕ} {at : ℕ} (names : List ℕ) (h : Held (lengt
       omega (arith, a)
 
   -- the record of an instruction, by its form and what stands at its place
-  by-form : (x : Instr) → h .instruction ≡ x → (a : Action) → actionIn n K r i x ≡ a → {out : List ℕ} {to : ℕ} {out′ names′ : List ℕ} {f : Front}
+  by-form : (x : Instr) → h .instruction ≡ x → (a : Action) → actionIn n K r i x ≡ a
+      → {out : List ℕ} {to : ℕ} {out′ names′ : List ℕ} {f : Front}
       → Wrote out to (recordBytes stmtBytes (statement Assume c (At (placeIn n r i) a))) out′ (f .to)
-      → newestOf names′ (f .control) (f .next) ≡ advance c (At (placeIn n r i) a) → Written c (placeOf n K r i rec ∷ []) out to out′ names′ f
+      → newestOf names′ (f .control) (f .next) ≡ advance c (At (placeIn n r i) a) → Written c (placeOf n K r i rec ∷ []) out to out′ names′
+      f
   by-form x q a z {out} {to} {out′} {names′} {f} v k =
-      subst (λ p. Written c (p ∷ []) out to out′ names′ f) (sym (ap (placeOf n K r i) (h .is ∙ ap {B = Body Instr} Good q) ∙ ap {B = Place} (At (placeIn n r i)) z)) (written-one v k)
+      subst (λ p. Written c (p ∷ []) out to out′ names′ f)
+      (sym (ap (placeOf n K r i) (h .is ∙ ap {B = Body Instr} Good q) ∙ ap {B = Place} (At (placeIn n r i)) z)) (written-one v k)
 
   here : (j : ℕ) → j ≡ r * (n + 1) + i → j ≡ placeIn n r i
   here j q = q ∙ place-is n i r
@@ -110,35 +115,45 @@ module _ {n : ℕ} {s : List ℕ} {at : ℕ} (names : List ℕ) (h : Held (lengt
     module _ (kind : getD s (at + 2) 0 ≡ 1) where
       pub assign-room : (to m : ℕ) → to + length (recordsBytes stmtBytes (statements Assume c (placeOf n K r i rec ∷ []))) ≤ m
           → to + (20 + exprSize (tokensOf (parse Table (below (length names)) part))) ≤ m
-      assign-room to m l = omega (arith, room-for (Assign (numberOf 1 (drop (at + 3) s)) e) (h .assigns kind .0) to m l, ap exprSize tokens-are)
+      assign-room to m l =
+          omega (arith, room-for (Assign (numberOf 1 (drop (at + 3) s)) e) (h .assigns kind .0) to m l, ap exprSize tokens-are)
 
-      pub assign-written : (j y : ℕ) → j ≡ r * (n + 1) + i → y ≡ numberOf 1 (drop (at + 3) s) → {out : List ℕ} {to : ℕ} {out′ : List ℕ} {to′ : ℕ}
-          → Wrote out to (recordBytes stmtBytes (T.Assign j new (guarded w j (rename (currentOf names) (tokensOf (parse Table (below (length names)) part))) (Symbol (getD names y 0))))) out′ to′
+      pub assign-written : (j y : ℕ) → j ≡ r * (n + 1) + i → y ≡ numberOf 1 (drop (at + 3) s)
+          → {out : List ℕ} {to : ℕ} {out′ : List ℕ} {to′ : ℕ}
+          → Wrote out to (recordBytes stmtBytes
+          (T.Assign j new (guarded w j (rename (currentOf names) (tokensOf (parse Table (below (length names)) part)))
+          (Symbol (getD names y 0))))) out′ to′
           → Written c (placeOf n K r i rec ∷ []) out to out′ (set names y new) (record { control = w; next = new + 1; to = to′ })
       assign-written j y a b v =
           let z = numberOf 1 (drop (at + 3) s) in
           let l = h .assigns kind .1 in
           let p : j ≡ placeIn n r i = here j a in
           let o : getD names y 0 ≡ currentOf names z = ap (λ y. getD names y 0) b ∙ current-at names z l in
-          let u : currentOf (set names y new) ≡ update (currentOf names) z new = ap (λ y. currentOf (set names y new)) b ∙ current-set names z new l in
+          let u : currentOf (set names y new) ≡ update (currentOf names) z new = ap (λ y. currentOf (set names y new)) b
+          ∙ current-set names z new l in
           by-form (Assign z e) (h .assigns kind .0) (Set z e) refl
-          (wrote-as (ap (recordBytes stmtBytes) (λ q. T.Assign (p q) new (guarded w (p q) (rename (currentOf names) (tokens-are q)) (Symbol (o q))))) v)
+          (wrote-as (ap (recordBytes stmtBytes)
+          (λ q. T.Assign (p q) new (guarded w (p q) (rename (currentOf names) (tokens-are q)) (Symbol (o q))))) v)
           (λ q. record { current = u q; control = w; next = add-one new q })
 
     -- an Assume or an Assert
     module _ (not-assign : getD s (at + 2) 0 ≡ 1 → ⊥) (not-jump : getD s (at + 2) 0 ≡ 4 → ⊥) where
       pub test-room : (to m : ℕ) → to + length (recordsBytes stmtBytes (statements Assume c (placeOf n K r i rec ∷ []))) ≤ m
           → to + (20 + exprSize (tokensOf (parse Table (below (length names)) part))) ≤ m
-      test-room to m l = omega (arith, room-for (Test (kindOf (getD s (at + 2) 0)) e) (h .tests not-assign not-jump) to m l, ap exprSize tokens-are)
+      test-room to m l =
+          omega (arith, room-for (Test (kindOf (getD s (at + 2) 0)) e) (h .tests not-assign not-jump) to m l, ap exprSize tokens-are)
 
       pub test-written : (j : ℕ) → j ≡ r * (n + 1) + i → {out : List ℕ} {to : ℕ} {out′ : List ℕ} {to′ : ℕ}
-          → Wrote out to (recordBytes stmtBytes (T.Test (kindOf (getD s (at + 2) 0)) j (guarded w j (rename (currentOf names) (tokensOf (parse Table (below (length names)) part))) (Const 1)))) out′ to′
+          → Wrote out to (recordBytes stmtBytes
+          (T.Test (kindOf (getD s (at + 2) 0)) j
+          (guarded w j (rename (currentOf names) (tokensOf (parse Table (below (length names)) part))) (Const 1)))) out′ to′
           → Written c (placeOf n K r i rec ∷ []) out to out′ names (record { control = w; next = new; to = to′ })
       test-written j a v =
           let p : j ≡ placeIn n r i = here j a in
           let k : kindOf (getD s (at + 2) 0) ≡ becomes Assume (kindOf (getD s (at + 2) 0)) = same (eqb (getD s (at + 2) 0) 3) in
           by-form (Test (kindOf (getD s (at + 2) 0)) e) (h .tests not-assign not-jump) (Check (kindOf (getD s (at + 2) 0)) e) refl
-          (wrote-as (ap (recordBytes stmtBytes) (λ q. T.Test (k q) (p q) (guarded w (p q) (rename (currentOf names) (tokens-are q)) (Const 1)))) v) refl
+          (wrote-as (ap (recordBytes stmtBytes)
+          (λ q. T.Test (k q) (p q) (guarded w (p q) (rename (currentOf names) (tokens-are q)) (Const 1)))) v) refl
         where
           same : (b : Bool) → cond b Assert Assume ≡ becomes Assume (cond b Assert Assume)
           same true = refl
@@ -149,16 +164,22 @@ module _ {n : ℕ} {s : List ℕ} {at : ℕ} (names : List ℕ) (h : Held (lengt
       jumps : h .instruction ≡ IfThenGoto t e
       jumps = h .jumps kind .0 ∙ ap {B = Instr} (λ t. IfThenGoto t e) (sym target)
 
-      goes-to : (goal : ℕ) → actionIn n K r i (IfThenGoto t e) ≡ Jump goal e → (j : ℕ) → j ≡ r * (n + 1) + i → (g : ℕ) → g ≡ goal → {out : List ℕ} {to : ℕ} {out′ : List ℕ} {to′ : ℕ}
-          → Wrote out to (recordBytes stmtBytes (T.Assign j new (guarded w j (rename (currentOf names) (tokensOf (parse Table (below (length names)) part)) ++ Const g ∷ Symbol w ∷ Ite ∷ []) (Symbol w)))) out′ to′
+      goes-to : (goal : ℕ) → actionIn n K r i (IfThenGoto t e) ≡ Jump goal e → (j : ℕ) → j ≡ r * (n + 1) + i → (g : ℕ) → g ≡ goal
+          → {out : List ℕ} {to : ℕ} {out′ : List ℕ} {to′ : ℕ}
+          → Wrote out to (recordBytes stmtBytes
+          (T.Assign j new (guarded w j (rename (currentOf names) (tokensOf (parse Table (below (length names)) part)) ++ Const g
+          ∷ Symbol w ∷ Ite ∷ []) (Symbol w)))) out′ to′
           → Written c (placeOf n K r i rec ∷ []) out to out′ names (record { control = new; next = new + 1; to = to′ })
       goes-to goal z j a g b v =
           let p : j ≡ placeIn n r i = here j a in
           by-form (IfThenGoto t e) jumps (Jump goal e) z
-          (wrote-as (ap (recordBytes stmtBytes) (λ q. T.Assign (p q) new (guarded w (p q) (rename (currentOf names) (tokens-are q) ++ Const (b q) ∷ Symbol w ∷ Ite ∷ []) (Symbol w)))) v)
+          (wrote-as (ap (recordBytes stmtBytes)
+          (λ q. T.Assign (p q) new (guarded w (p q) (rename (currentOf names) (tokens-are q) ++ Const (b q) ∷ Symbol w ∷ Ite ∷ [])
+          (Symbol w)))) v)
           (λ q. record { current = currentOf names; control = new; next = add-one new q })
 
-      room-of : (k : ℕ) → cond (not (ltb r K) && leb t i) 21 29 ≡ k → (to m : ℕ) → to + length (recordsBytes stmtBytes (statements Assume c (placeOf n K r i rec ∷ []))) ≤ m
+      room-of : (k : ℕ) → cond (not (ltb r K) && leb t i) 21 29 ≡ k → (to m : ℕ)
+          → to + length (recordsBytes stmtBytes (statements Assume c (placeOf n K r i rec ∷ []))) ≤ m
           → to + (k + exprSize (tokensOf (parse Table (below (length names)) part))) ≤ m
       room-of k z to m l = omega (arith, room-for (IfThenGoto t e) jumps to m l, ap exprSize tokens-are, z)
 
@@ -172,8 +193,11 @@ module _ {n : ℕ} {s : List ℕ} {at : ℕ} (names : List ℕ) (h : Held (lengt
             early true = refl
             early false = refl
 
-        pub forward-written : (j : ℕ) → j ≡ r * (n + 1) + i → (g : ℕ) → g ≡ r * (n + 1) + t → {out : List ℕ} {to : ℕ} {out′ : List ℕ} {to′ : ℕ}
-            → Wrote out to (recordBytes stmtBytes (T.Assign j new (guarded w j (rename (currentOf names) (tokensOf (parse Table (below (length names)) part)) ++ Const g ∷ Symbol w ∷ Ite ∷ []) (Symbol w)))) out′ to′
+        pub forward-written : (j : ℕ) → j ≡ r * (n + 1) + i → (g : ℕ) → g ≡ r * (n + 1) + t
+            → {out : List ℕ} {to : ℕ} {out′ : List ℕ} {to′ : ℕ}
+            → Wrote out to (recordBytes stmtBytes
+            (T.Assign j new (guarded w j (rename (currentOf names) (tokensOf (parse Table (below (length names)) part)) ++ Const g
+            ∷ Symbol w ∷ Ite ∷ []) (Symbol w)))) out′ to′
             → Written c (placeOf n K r i rec ∷ []) out to out′ names (record { control = new; next = new + 1; to = to′ })
         forward-written j a g b v = goes-to (placeIn n r t) (rw (lt-leb t i d)) j a g (b ∙ place-is n t r) v
 
@@ -183,11 +207,15 @@ module _ {n : ℕ} {s : List ℕ} {at : ℕ} (names : List ℕ) (h : Held (lengt
             → to + (29 + exprSize (tokensOf (parse Table (below (length names)) part))) ≤ m
         back-room to m q = room-of 29 (rw (lt-ltb r K l)) to m q
 
-        pub back-written : (j : ℕ) → j ≡ r * (n + 1) + i → (g : ℕ) → g ≡ (r + 1) * (n + 1) + t → {out : List ℕ} {to : ℕ} {out′ : List ℕ} {to′ : ℕ}
-            → Wrote out to (recordBytes stmtBytes (T.Assign j new (guarded w j (rename (currentOf names) (tokensOf (parse Table (below (length names)) part)) ++ Const g ∷ Symbol w ∷ Ite ∷ []) (Symbol w)))) out′ to′
+        pub back-written : (j : ℕ) → j ≡ r * (n + 1) + i → (g : ℕ) → g ≡ (r + 1) * (n + 1) + t
+            → {out : List ℕ} {to : ℕ} {out′ : List ℕ} {to′ : ℕ}
+            → Wrote out to (recordBytes stmtBytes
+            (T.Assign j new (guarded w j (rename (currentOf names) (tokensOf (parse Table (below (length names)) part)) ++ Const g
+            ∷ Symbol w ∷ Ite ∷ []) (Symbol w)))) out′ to′
             → Written c (placeOf n K r i rec ∷ []) out to out′ names (record { control = new; next = new + 1; to = to′ })
         back-written j a g b v =
-            goes-to (placeIn n (suc r) t) (rw (le-leb t i d, lt-ltb r K l)) j a g (b ∙ ap (λ x. x * (n + 1) + t) (add-one r) ∙ place-is n t (suc r)) v
+            goes-to (placeIn n (suc r) t) (rw (le-leb t i d, lt-ltb r K l)) j a g (b ∙ ap (λ x. x * (n + 1) + t) (add-one r)
+            ∙ place-is n t (suc r)) v
 
       -- back, in the last copy
       module _ (d : t ≤ i) (l : K ≤ r) where
@@ -196,9 +224,12 @@ module _ {n : ℕ} {s : List ℕ} {at : ℕ} (names : List ℕ) (h : Held (lengt
         bound-room to m q = room-of 21 (rw (le-leb t i d, le-ltb r K l)) to m q
 
         pub bound-written : (j : ℕ) → j ≡ r * (n + 1) + i → {out : List ℕ} {to : ℕ} {out′ : List ℕ} {to′ : ℕ}
-            → Wrote out to (recordBytes stmtBytes (T.Test Assume j (guarded w j (rename (currentOf names) (tokensOf (parse Table (below (length names)) part) ++ Un Zero ∷ [])) (Const 1)))) out′ to′
+            → Wrote out to (recordBytes stmtBytes
+            (T.Test Assume j (guarded w j
+            (rename (currentOf names) (tokensOf (parse Table (below (length names)) part) ++ Un Zero ∷ [])) (Const 1)))) out′ to′
             → Written c (placeOf n K r i rec ∷ []) out to out′ names (record { control = w; next = new; to = to′ })
         bound-written j a v =
             let p : j ≡ placeIn n r i = here j a in
             by-form (IfThenGoto t e) jumps (Check Bound (e ++ Un Zero ∷ [])) (rw (le-leb t i d, le-ltb r K l))
-            (wrote-as (ap (recordBytes stmtBytes) (λ q. T.Test Assume (p q) (guarded w (p q) (rename (currentOf names) (tokens-are q ++ Un Zero ∷ [])) (Const 1)))) v) refl
+            (wrote-as (ap (recordBytes stmtBytes)
+            (λ q. T.Test Assume (p q) (guarded w (p q) (rename (currentOf names) (tokens-are q ++ Un Zero ∷ [])) (Const 1)))) v) refl

@@ -39,7 +39,8 @@ pub judge-unwind : (cut : Kind) (S : ℕ) (is : List Instr) (K : ℕ) (words : L
     → judge (unwind cut S is K) (envOf words) ≡ shownAs cut ((run is K words) .outcome)
 unfolding unwind judge value
 judge-unwind cut S is K words o =
-    judge-gated cut S (endOf (length is) K) (places is K) (places-ok S is K o) (atFirst S) (update (envOf words) S 0) (envOf words) 0 (first-mirrors S (envOf words))
+    judge-gated cut S (endOf (length is) K) (places is K) (places-ok S is K o) (atFirst S) (update (envOf words) S 0) (envOf words) 0
+    (first-mirrors S (envOf words))
     ∙ ap (shownAs cut) (gated-runs S is K words o)
 
 -- with a kind of its own for the bound's test, the very outcome

@@ -25,7 +25,8 @@ refusal reply offset = record { reply = reply; offset = offset; bytes = [] }
 -- over 4,096 statements or 65,535 bytes is 9, a buffer shorter than the trace 10
 abbrev pub fitting : (room : ℕ) → (count : ℕ) → List ℕ → Traced
 fitting room count bytes =
-    cond (leb count 4096 && leb (length bytes) 65535) (cond (leb (length bytes) room) (record { reply = 0; offset = 0; bytes = bytes }) (refusal 10 0)) (refusal 9 0)
+    cond (leb count 4096 && leb (length bytes) 65535) (cond (leb (length bytes) room) (record { reply = 0; offset = 0; bytes = bytes })
+    (refusal 10 0)) (refusal 9 0)
 
 abbrev pub traceOf : (room S : ℕ) → List Stmt → Traced
 traceOf room S ts = fitting room (length ts) (encodeTrace S ts)

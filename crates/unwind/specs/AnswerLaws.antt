@@ -30,7 +30,8 @@ module _ (b : List ℕ) (K S : ℕ) (is : List Instr) where
   -- the answer, by the tests for 8, 9 and 10
   abbrev tested : (x y z : Bool) → Traced
   tested x y z =
-      cond x (cond y (cond z (record { reply = 0; offset = 0; bytes = encodeTrace S (unwind Assume S is K) }) (refusal 10 0)) (refusal 9 0)) (refusal 8 0)
+      cond x (cond y (cond z (record { reply = 0; offset = 0; bytes = encodeTrace S (unwind Assume S is K) }) (refusal 10 0))
+      (refusal 9 0)) (refusal 8 0)
 
   tests-passed : readTable b ≡ Accepted S is
       → (x : Bool) → leb K 255 ≡ x
@@ -58,10 +59,12 @@ trace-written b K room h = go (readTable b) refl h
     go : (i : Input Instr) → readTable b ≡ i → (answered K room i) .reply ≡ 0
         → (S : ℕ) × (is : List Instr) × IsTrace b K S is ((answered K room i) .bytes)
     go (Refused r at) q h = absurd (omega (arith, table-refused-positive b r at q))
-    go (Accepted S is) q h = (S, is, tests-passed b K S is q (leb K 255) refl _ refl (leb (length (encodeTrace S (unwind Assume S is K))) room) h)
+    go (Accepted S is) q h =
+        (S, is, tests-passed b K S is q (leb K 255) refl _ refl (leb (length (encodeTrace S (unwind Assume S is K))) room) h)
 
 -- reading gives back what was written
-pub trace-read : (b : List ℕ) (K S : ℕ) (is : List Instr) (t : List ℕ) → All Byte b → IsTrace b K S is t → readTrace t ≡ Accepted S (unwind Assume S is K)
+pub trace-read : (b : List ℕ) (K S : ℕ) (is : List Instr) (t : List ℕ) → All Byte b → IsTrace b K S is t
+    → readTrace t ≡ Accepted S (unwind Assume S is K)
 trace-read b K S is t o w =
     let table = table-ok b S is o (w .accepted) in
     ap readTrace (w .bytes) ∙ unwind-accepted S is K (table .ok) (table .inputs) (w .count) (w .total)

@@ -20,7 +20,8 @@ abbrev written : List ℕ → Traced
 written bytes = record { reply = 0; offset = 0; bytes = bytes }
 
 -- m5: under K = 0 the trace has 6 statements and 156 bytes, under K = 1 it has 302; the bytes are those that were written by hand
-pub m5 : (traceAnswer smallRule 0 156 ≡ written smallTrace0) × (length smallTrace0 ≡ 156) × (length (unwind Assume 1 (listed (readTable smallRule)) 0) ≡ 6)
+pub m5 : (traceAnswer smallRule 0 156 ≡ written smallTrace0) × (length smallTrace0 ≡ 156)
+    × (length (unwind Assume 1 (listed (readTable smallRule)) 0) ≡ 6)
     × (traceAnswer smallRule 1 302 ≡ written smallTrace1) × (length smallTrace1 ≡ 302)
 unfolding traceAnswer readTable readFile headerReply records recordOf frame instr parseFrom readToken operator fits unwind places encode
 m5 = (refl, refl, refl, refl, refl)
@@ -226,7 +227,8 @@ asserts = 0x01 ∷ 0x14 ∷ 0x06 ∷ 0x01 ∷ 0x04 ∷ 0x00 ∷ repeated 1024 (0
 -- 5,126 bytes; with K = 1 the trace has 2,051 statements in 47,172 bytes, with K = 2 it would have 3,076 in 70,749, refusal 9
 limits : (length asserts ≡ 5126)
     × (length (unwind Assume 1 (listed (readTable asserts)) 1) ≡ 2051) × (length ((traceAnswer asserts 1 65535) .bytes) ≡ 47172)
-    × (length (unwind Assume 1 (listed (readTable asserts)) 2) ≡ 3076) × (length (encodeTrace 1 (unwind Assume 1 (listed (readTable asserts)) 2)) ≡ 70749)
+    × (length (unwind Assume 1 (listed (readTable asserts)) 2) ≡ 3076)
+    × (length (encodeTrace 1 (unwind Assume 1 (listed (readTable asserts)) 2)) ≡ 70749)
     × (traceAnswer asserts 2 65535 ≡ refusal 9 0)
 unfolding traceAnswer readTable readFile headerReply records recordOf frame instr parseFrom readToken operator fits unwind places encode
 limits = (refl, refl, refl, refl, refl, refl)
@@ -236,6 +238,7 @@ abbrev zeros : (high low c : ℕ) → List ℕ
 zeros high low c = 0x01 ∷ 0xFF ∷ low ∷ 0x01 ∷ 0x00 ∷ 0x01 ∷ 0xFF ∷ high ∷ 0x03 ∷ 0x02 ∷ 0x00 ∷ repeated c (0x12 ∷ [])
 
 -- a trace of 65,535 bytes is written; one of 65,536 is 9
-longest : (length ((traceAnswer (zeros 0xC0 0xC8 65469) 0 65535) .bytes) ≡ 65535) × (traceAnswer (zeros 0xC1 0xC9 65470) 0 65536 ≡ refusal 9 0)
+longest : (length ((traceAnswer (zeros 0xC0 0xC8 65469) 0 65535) .bytes) ≡ 65535)
+    × (traceAnswer (zeros 0xC1 0xC9 65470) 0 65536 ≡ refusal 9 0)
 unfolding traceAnswer readTable readFile headerReply records recordOf frame instr parseFrom readToken operator fits unwind places encode
 longest = (refl, refl)

@@ -46,7 +46,8 @@ guarded-value σ W j body old a b pa pb =
     active : ℕ
     active = test (leb (σ W) j)
 
--- the newest symbols hold, in the trace's environment σ, what the program's environment ρ and control w say; and a new symbol is none of them
+-- the newest symbols hold, in the trace's environment σ, what the program's environment ρ and control w say; and a new symbol is none of
+-- them
 pub record Mirrors (S : ℕ) (c : Newest) (σ ρ : Env) (w : ℕ) : Type 0 where
   pub current-is : (s : ℕ) → s < S → σ (c .current s) ≡ ρ s
   pub current-old : (s : ℕ) → s < S → c .current s < c .next
@@ -86,7 +87,8 @@ module _ (S : ℕ) (c : Newest) (σ ρ : Env) (w : ℕ) (m : Mirrors S c σ ρ w
     pushes : (st : List ℕ) → eval σ (rename (c .current) e) st ≡ value ρ e ∷ st
     pushes st = push-rename (below S) 16 σ ρ (c .current) e st (o .0) (λ s h. m .current-is s (ltb-true s S h))
 
-    set-value : (s : ℕ) → s < S → value σ (guarded (c .control) j (rename (c .current) e) (Symbol (c .current s))) ≡ gate w j (value ρ e) (ρ s)
+    set-value : (s : ℕ) → s < S → value σ (guarded (c .control) j (rename (c .current) e) (Symbol (c .current s))) ≡ gate w j (value ρ e)
+        (ρ s)
     set-value s h =
         guarded-value σ (c .control) j (rename (c .current) e) (Symbol (c .current s)) (value ρ e) (σ (c .current s)) pushes (λ st. refl)
         ∙ (cc (m .current-is s h, m .control-is))
@@ -99,12 +101,15 @@ module _ (S : ℕ) (c : Newest) (σ ρ : Env) (w : ℕ) (m : Mirrors S c σ ρ w
         ≡ gate w j (cond (truthy (value ρ e)) g w) w
     jump-value g =
         let choose = Const g ∷ Symbol (c .control) ∷ Ite ∷ [] in
-        guarded-value σ (c .control) j (rename (c .current) e ++ choose) (Symbol (c .control)) (cond (truthy (value ρ e)) g (σ (c .control))) (σ (c .control))
+        guarded-value σ (c .control) j (rename (c .current) e ++ choose) (Symbol (c .control))
+        (cond (truthy (value ρ e)) g (σ (c .control))) (σ (c .control))
         (λ st. eval-append σ (rename (c .current) e) choose st ∙ ap (eval σ choose) (pushes st)) (λ st. refl)
         ∙ (cc (m .control-is))
 
   exit-value : (j g : ℕ) → value σ (guarded (c .control) j (Const g ∷ []) (Symbol (c .control))) ≡ gate w j g w
-  exit-value j g = guarded-value σ (c .control) j (Const g ∷ []) (Symbol (c .control)) g (σ (c .control)) (λ st. refl) (λ st. refl) ∙ (cc (m .control-is))
+  exit-value j g =
+      guarded-value σ (c .control) j (Const g ∷ []) (Symbol (c .control)) g (σ (c .control)) (λ st. refl) (λ st. refl)
+      ∙ (cc (m .control-is))
 
 module _ (cut : Kind) where
   -- a test, and what follows it
@@ -125,7 +130,8 @@ module _ (cut : Kind) where
       ap (λ u. judge (statements cut (makesCurrent c s) ps) (update σ (c .next) u)) (set-value S c σ ρ w m j e (o .0 .1 .1) s (o .0 .1 .0))
       ∙ judge-gated S limit ps (o .1) (makesCurrent c s) (update σ (c .next) v) (update ρ s v) w (current-mirrors S c σ ρ w m s v)
   judge-gated S limit (At j (Check k e) ∷ ps) o c σ ρ w m =
-      test-shown k j _ _ (judge (statements cut c ps) σ) (gatedRun ps w ρ) (check-value S c σ ρ w m j e (o .0 .1)) (judge-gated S limit ps (o .1) c σ ρ w m)
+      test-shown k j _ _ (judge (statements cut c ps) σ) (gatedRun ps w ρ) (check-value S c σ ρ w m j e (o .0 .1))
+      (judge-gated S limit ps (o .1) c σ ρ w m)
   judge-gated S limit (At j (Jump g e) ∷ ps) o c σ ρ w m =
       let v : ℕ = gate w j (cond (truthy (value ρ e)) g w) w in
       ap (λ u. judge (statements cut (makesControl c) ps) (update σ (c .next) u)) (jump-value S c σ ρ w m j e (o .0 .1 .1) g)
@@ -145,7 +151,8 @@ act-idle j (Exit g) w ρ rest h = rw (lt-leb w j h)
 
 module _ (n K r : ℕ) where
   -- what is left of a copy, with its exit
-  copy-idle : (xs : List Instr) (i w : ℕ) (ρ : Env) (ps : List Place) → placeIn n r i + length xs < w → gatedRun (copyFrom n K r i xs ++ ps) w ρ ≡ gatedRun ps w ρ
+  copy-idle : (xs : List Instr) (i w : ℕ) (ρ : Env) (ps : List Place) → placeIn n r i + length xs < w
+      → gatedRun (copyFrom n K r i xs ++ ps) w ρ ≡ gatedRun ps w ρ
   copy-idle [] i w ρ ps h = act-idle (placeIn n r i) (Exit (endOf n K)) w ρ (gatedRun ps) (omega arith)
   copy-idle (x ∷ xs) i w ρ ps h =
       act-idle (placeIn n r i) (actionIn n K r i x) w ρ (gatedRun (copyFrom n K r (suc i) xs ++ ps)) (omega arith)
@@ -198,27 +205,34 @@ module _ (S : ℕ) (is : List Instr) (K f : ℕ) (follows : Follows is K f) wher
     next-follows : (ρ : Env) → gatedRun (onFrom is K c r (suc i) xs) w ρ ≡ (runFrom is K f (suc i) r ρ) .outcome
     next-follows ρ = rw (← behind) (follows c r (suc i) w ρ copies (omega arith) (omega arith) (omega arith))
 
-    forward-follows : (t : ℕ) (ρ : Env) → i < t → t ≤ n → gatedRun (onFrom is K c r (suc i) xs) (placeIn n r t) ρ ≡ (runFrom is K f t r ρ) .outcome
+    forward-follows : (t : ℕ) (ρ : Env) → i < t → t ≤ n → gatedRun (onFrom is K c r (suc i) xs) (placeIn n r t) ρ
+        ≡ (runFrom is K f t r ρ) .outcome
     forward-follows t ρ a b =
         let d : suc i + (t - suc i) ≡ t = omega arith in
-        part-idle n K r (t - suc i) xs (suc i) (placeIn n r t) ρ (copiesFrom is K c (suc r)) (omega (arith, ap length behind, length-drop (suc i) is)) (omega arith)
-        ∙ ap (λ ys. gatedRun (onFrom is K c r (suc i + (t - suc i)) ys) (placeIn n r t) ρ) (ap (drop (t - suc i)) (sym behind) ∙ drop-drop (t - suc i) (suc i) is)
+        part-idle n K r (t - suc i) xs (suc i) (placeIn n r t) ρ (copiesFrom is K c (suc r))
+        (omega (arith, ap length behind, length-drop (suc i) is)) (omega arith)
+        ∙ ap (λ ys. gatedRun (onFrom is K c r (suc i + (t - suc i)) ys) (placeIn n r t) ρ) (ap (drop (t - suc i)) (sym behind)
+        ∙ drop-drop (t - suc i) (suc i) is)
         ∙ ap (λ q. gatedRun (onFrom is K c r q (drop q is)) (placeIn n r t) ρ) d
         ∙ follows c r t (placeIn n r t) ρ copies b (omega arith) (omega arith)
 
-    back-follows : (b t : ℕ) (ρ : Env) → c ≡ suc b → t ≤ n → gatedRun (onFrom is K c r (suc i) xs) (placeIn n (suc r) t) ρ ≡ (runFrom is K f t (suc r) ρ) .outcome
+    back-follows : (b t : ℕ) (ρ : Env) → c ≡ suc b → t ≤ n → gatedRun (onFrom is K c r (suc i) xs) (placeIn n (suc r) t) ρ
+        ≡ (runFrom is K f t (suc r) ρ) .outcome
     back-follows b t ρ e h =
         ap (λ q. gatedRun (onFrom is K q r (suc i) xs) (placeIn n (suc r) t) ρ) e
-        ∙ copy-idle n K r xs (suc i) (placeIn n (suc r) t) ρ (copiesFrom is K (suc b) (suc r)) (omega (arith, ap length behind, length-drop (suc i) is))
+        ∙ copy-idle n K r xs (suc i) (placeIn n (suc r) t) ρ (copiesFrom is K (suc b) (suc r))
+        (omega (arith, ap length behind, length-drop (suc i) is))
         ∙ part-idle n K (suc r) t is 0 (placeIn n (suc r) t) ρ (copiesFrom is K b (suc (suc r))) h (omega arith)
         ∙ ap (λ q. gatedRun (onFrom is K b (suc r) q (drop t is)) (placeIn n (suc r) t) ρ) (omega arith)
         ∙ follows b (suc r) t (placeIn n (suc r) t) ρ (omega arith) h (omega arith) (omega (arith, ap (λ q. q * suc n) e))
 
     jump-follows : (l t : ℕ) (e : List Token) (ρ : Env) → c ≡ l → t ≤ n → ExprOk S e → (b z : Bool) → leb t i ≡ b → eqb (value ρ e) 0 ≡ z
-        → act j (jumpIn n K r i t e) w ρ (gatedRun (onFrom is K c r (suc i) xs)) ≡ (onward (step n K i r (IfThenGoto t e) ρ) r (runFrom is K f)) .outcome
+        → act j (jumpIn n K r i t e) w ρ (gatedRun (onFrom is K c r (suc i) xs))
+        ≡ (onward (step n K i r (IfThenGoto t e) ρ) r (runFrom is K f)) .outcome
     jump-follows l t e ρ q h o false true p z = rw (p, le-leb w j active, z) (next-follows ρ)
     jump-follows l t e ρ q h o false false p z = rw (p, le-leb w j active, z) (forward-follows t ρ (leb-false t i p) h)
-    jump-follows zero t e ρ q h o true true p z = rw (p, le-ltb r K (omega arith), le-leb w j active, bound-value S ρ e o, z) (next-follows ρ)
+    jump-follows zero t e ρ q h o true true p z =
+        rw (p, le-ltb r K (omega arith), le-leb w j active, bound-value S ρ e o, z) (next-follows ρ)
     jump-follows zero t e ρ q h o true false p z = rw (p, le-ltb r K (omega arith), le-leb w j active, bound-value S ρ e o, z)
     jump-follows (suc l) t e ρ q h o true true p z = rw (p, lt-ltb r K (omega arith), le-leb w j active, z) (next-follows ρ)
     jump-follows (suc l) t e ρ q h o true false p z = rw (p, lt-ltb r K (omega arith), le-leb w j active, z) (back-follows l t ρ q h)
@@ -234,14 +248,16 @@ module _ (S : ℕ) (is : List Instr) (K f : ℕ) (follows : Follows is K f) wher
         go false = refl
     step-follows (IfThenGoto t e) ρ o = jump-follows c t e ρ refl (o .0) (o .1) (leb t i) (eqb (value ρ e) 0) refl refl
 
-  copy-follows : (xs : List Instr) (c r i w : ℕ) (ρ : Env) → drop i is ≡ xs → All (InstrOk S (length is)) xs → r + c ≡ K → w ≤ placeIn (length is) r i
+  copy-follows : (xs : List Instr) (c r i w : ℕ) (ρ : Env) → drop i is ≡ xs → All (InstrOk S (length is)) xs → r + c ≡ K
+      → w ≤ placeIn (length is) r i
       → c * suc (length is) + (suc (length is) - i) ≤ suc f
       → gatedRun (onFrom is K c r i xs) w ρ ≡ (onward (stepAt (length is) K i r xs ρ) r (runFrom is K f)) .outcome
   copy-follows [] c r i w ρ q o k active m =
       ap (λ t. gatedRun (copiesFrom is K c (suc r)) (cond t (endOf n K) w) ρ) (le-leb w (placeIn n r i) active)
       ∙ copies-idle is K c (suc r) (endOf n K) ρ (omega (arith, ap (λ x. x * suc n) k))
   copy-follows (x ∷ xs) c r i w ρ q o k active m =
-      step-follows c r i w xs (omega (arith, ap length q, length-drop i is)) (ap (λ k. drop k is) (sym (add-one i)) ∙ drop-next is i q) active k m x ρ (o .0)
+      step-follows c r i w xs (omega (arith, ap length q, length-drop i is)) (ap (λ k. drop k is) (sym (add-one i)) ∙ drop-next is i q)
+      active k m x ρ (o .0)
 
 run-follows : (S : ℕ) (is : List Instr) (K : ℕ) → All (InstrOk S (length is)) is → (f : ℕ) → Follows is K f
 run-follows S is K o zero c r i w ρ k h active m = absurd (omega arith)
@@ -251,4 +267,5 @@ run-follows S is K o (suc f) c r i w ρ k h active m =
 pub gated-runs : (S : ℕ) (is : List Instr) (K : ℕ) (words : List ℕ) → All (InstrOk S (length is)) is
     → gatedRun (places is K) 0 (envOf words) ≡ (run is K words) .outcome
 unfolding places run
-gated-runs S is K words o = run-follows S is K o (suc K * suc (length is)) K 0 0 0 (envOf words) (omega arith) (omega arith) (omega arith) (omega arith)
+gated-runs S is K words o =
+    run-follows S is K o (suc K * suc (length is)) K 0 0 0 (envOf words) (omega arith) (omega arith) (omega arith) (omega arith)

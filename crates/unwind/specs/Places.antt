@@ -26,7 +26,8 @@ endOf n K = suc K * suc n
 
 -- a jump from i to t in copy r: forward in its copy; a back jump into the next one, and in copy K the test that its condition is zero
 abbrev pub jumpIn : (n K r i t : ℕ) → List Token → Action
-jumpIn n K r i t e = cond (leb t i) (cond (ltb r K) (Jump (placeIn n (suc r) t) e) (Check Bound (e ++ Un Zero ∷ []))) (Jump (placeIn n r t) e)
+jumpIn n K r i t e =
+    cond (leb t i) (cond (ltb r K) (Jump (placeIn n (suc r) t) e) (Check Bound (e ++ Un Zero ∷ []))) (Jump (placeIn n r t) e)
 
 -- instruction i in copy r
 abbrev pub actionIn : (n K r i : ℕ) → Instr → Action

@@ -45,7 +45,8 @@ renamedBytes f (some t) = tokenBytes Trace (renameToken f t)
 
 -- the bytes of a token in the table and in the trace, by its code
 abbrev pub spanOf : (code : ℕ) → Span
-spanOf code = cond (eqb code 1) (record { here = 5; there = 5 }) (cond (eqb code 2) (record { here = 2; there = 3 }) (record { here = 1; there = 1 }))
+spanOf code =
+    cond (eqb code 1) (record { here = 5; there = 5 }) (cond (eqb code 2) (record { here = 2; there = 3 }) (record { here = 1; there = 1 }))
 
 -- ---- places
 

@@ -37,8 +37,10 @@ size-rename f (Un o ∷ e) = omega (arith, size-rename f e)
 size-rename f (Bin o ∷ e) = omega (arith, size-rename f e)
 size-rename f (Ite ∷ e) = omega (arith, size-rename f e)
 
-guarded-size : (W j : ℕ) (body : List Token) (old : Token) → exprSize (guarded W j body old) ≡ 10 + exprSize body + length (tokenBytes Trace old)
-guarded-size W j body old = omega (arith, size-append body (old ∷ Ite ∷ []), length-append (operands Trace old) (exprBytes Trace (Ite ∷ [])))
+guarded-size : (W j : ℕ) (body : List Token) (old : Token) → exprSize (guarded W j body old) ≡ 10 + exprSize body + length
+    (tokenBytes Trace old)
+guarded-size W j body old =
+    omega (arith, size-append body (old ∷ Ite ∷ []), length-append (operands Trace old) (exprBytes Trace (Ite ∷ [])))
 
 -- ---- records
 
@@ -61,13 +63,15 @@ module _ (cut : Kind) (c : Newest) (j : ℕ) where
   -- instruction i of copy r, the last one or not
   pub statement-size : (n K r i : ℕ) (last : Bool) (x : Instr) → ltb r K ≡ not last
       → length (recordBytes stmtBytes (statement cut c (At j (actionIn n K r i x)))) ≡ instrSize last i x
-  statement-size n K r i last (Assign s e) h = omega (arith, guarded-size (c .control) j (rename (c .current) e) (Symbol (c .current s)), size-rename (c .current) e)
+  statement-size n K r i last (Assign s e) h =
+      omega (arith, guarded-size (c .control) j (rename (c .current) e) (Symbol (c .current s)), size-rename (c .current) e)
   statement-size n K r i last (Test k e) h = check-size k e
   statement-size n K r i last (IfThenGoto t e) h = ap (λ more. length (record-of (leb t i) more)) h ∙ go (leb t i) last
     where
       record-of : (back more : Bool) → List ℕ
       record-of back more =
-          recordBytes stmtBytes (statement cut c (At j (cond back (cond more (Jump (placeIn n (suc r) t) e) (Check Bound (e ++ Un Zero ∷ []))) (Jump (placeIn n r t) e))))
+          recordBytes stmtBytes (statement cut c
+          (At j (cond back (cond more (Jump (placeIn n (suc r) t) e) (Check Bound (e ++ Un Zero ∷ []))) (Jump (placeIn n r t) e))))
 
       go : (back last : Bool) → length (record-of back (not last)) ≡ cond (last && back) 21 29 + exprSize e
       go false false = jump-size (placeIn n r t) e
@@ -83,7 +87,8 @@ module _ (cut : Kind) where
   copy-size c n K r i last [] h = refl
   copy-size c n K r i last (x ∷ xs) h =
       let p = At (placeIn n r i) (actionIn n K r i x) in
-      length-append (recordBytes stmtBytes (statement cut c p)) (recordsBytes stmtBytes (statements cut (advance c p) (copyFrom n K r (suc i) xs)))
+      length-append (recordBytes stmtBytes (statement cut c p))
+      (recordsBytes stmtBytes (statements cut (advance c p) (copyFrom n K r (suc i) xs)))
       ∙ (omega (arith, statement-size cut c (placeIn n r i) n K r i last x h, copy-size (advance c p) n K r (suc i) last xs h))
 
   -- a copy and the places after it

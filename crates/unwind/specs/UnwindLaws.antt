@@ -27,7 +27,8 @@ use Rattle.trace.specs.Trace.{Stmt, Seen, atFirst as seenFirst, see, encodeTrac
 use Rattle.trace.specs.WellFormed.{Told, ExprOk, StmtsOk}
 use Rattle.trace.specs.EncodeLaws.{read-encode}
 use Rattle.unwind.specs.Places.{Action, Set, Check, Jump, Exit, Place, At, endOf, jumpIn, actionIn, copyFrom, copiesFrom, places}
-use Rattle.unwind.specs.Unwind.{Newest, guarded, becomes, statement, makesCurrent, makesControl, advance, statements, atFirst, opening, unwind}
+use Rattle.unwind.specs.Unwind.{Newest, guarded, becomes, statement, makesCurrent, makesControl, advance, statements, atFirst}
+use Rattle.unwind.specs.Unwind.{opening, unwind}
 
 -- ---- statements in parts
 
@@ -83,13 +84,15 @@ place-lt n K r i h k = omega (arith, mul-le-mul-right (suc n) h)
 module _ (S n K : ℕ) where
   zero-ok : (e : List Token) → TableExprOk S e → TableExprOk S (e ++ Un Zero ∷ [])
   unfolding fits
-  zero-ok e o = (ok-append (below S) 16 0 1 1 e (Un Zero ∷ []) (o .0) (refl, refl), all-append (Holds Table) e (Un Zero ∷ []) (o .1) (tt, tt))
+  zero-ok e o =
+      (ok-append (below S) 16 0 1 1 e (Un Zero ∷ []) (o .0) (refl, refl), all-append (Holds Table) e (Un Zero ∷ []) (o .1) (tt, tt))
 
   jump-ok : (r i t : ℕ) (e : List Token) → r ≤ K → t ≤ n → TableExprOk S e → ActionOk S (endOf n K) (jumpIn n K r i t e)
   jump-ok r i t e h k o = go (leb t i) (ltb r K) refl
     where
       go : (back more : Bool) → ltb r K ≡ more
-          → ActionOk S (endOf n K) (cond back (cond more (Jump (placeIn n (suc r) t) e) (Check Bound (e ++ Un Zero ∷ []))) (Jump (placeIn n r t) e))
+          → ActionOk S (endOf n K) (cond back (cond more (Jump (placeIn n (suc r) t) e) (Check Bound (e ++ Un Zero ∷ [])))
+          (Jump (placeIn n r t) e))
       go false more q = (omega (arith, place-lt n K r t h k), o)
       go true false q = zero-ok e o
       go true true q = (omega (arith, place-lt n K (suc r) t (ltb-true r K q) k), o)
@@ -99,11 +102,13 @@ module _ (S n K : ℕ) where
   action-ok r i (Test k e) h o = o
   action-ok r i (IfThenGoto t e) h o = jump-ok r i t e h (o .0) (o .1)
 
-  copy-ok : (r i : ℕ) (xs : List Instr) → r ≤ K → i + length xs ≡ n → All (InstrOk S n) xs → All (PlaceOk S (endOf n K)) (copyFrom n K r i xs)
+  copy-ok : (r i : ℕ) (xs : List Instr) → r ≤ K → i + length xs ≡ n → All (InstrOk S n) xs
+      → All (PlaceOk S (endOf n K)) (copyFrom n K r i xs)
   copy-ok r i [] h l o = ((place-lt n K r i h (omega arith), (omega arith)), tt)
   copy-ok r i (x ∷ xs) h l o = ((place-lt n K r i h (omega arith), action-ok r i x h (o .0)), copy-ok r (suc i) xs h (omega arith) (o .1))
 
-copies-ok : (S : ℕ) (is : List Instr) (K c r : ℕ) → r + c ≡ suc K → All (InstrOk S (length is)) is → All (PlaceOk S (endOf (length is) K)) (copiesFrom is K c r)
+copies-ok : (S : ℕ) (is : List Instr) (K c r : ℕ) → r + c ≡ suc K → All (InstrOk S (length is)) is
+    → All (PlaceOk S (endOf (length is) K)) (copiesFrom is K c r)
 copies-ok S is K zero r h o = tt
 copies-ok S is K (suc c) r h o =
     all-append (PlaceOk S (endOf (length is) K)) (copyFrom (length is) K r 0 is) (copiesFrom is K c (suc r))
@@ -116,7 +121,8 @@ places-ok S is K o = copies-ok S is K (suc K) 0 (omega arith) o
 -- ---- the expressions
 
 -- symbols that may be read are renamed to ones that fit two bytes
-rename-holds : (may : ℕ → Bool) (f : ℕ → ℕ) → ((s : ℕ) → may s ≡ true → f s < 65536) → (limit d z : ℕ) (e : List Token) → Ok may limit d z e → All (Holds Table) e
+rename-holds : (may : ℕ → Bool) (f : ℕ → ℕ) → ((s : ℕ) → may s ≡ true → f s < 65536) → (limit d z : ℕ) (e : List Token)
+    → Ok may limit d z e → All (Holds Table) e
     → All (Holds Trace) (rename f e)
 rename-holds may f h limit d z [] o a = tt
 rename-holds may f h limit d z (t ∷ e) o a = (token t (o .0) (a .0), rename-holds may f h limit (suc (d - pops t)) z e (o .1) (a .1))
@@ -133,7 +139,17 @@ guarded-ok : (may : ℕ → Bool) (W j : ℕ) (body : List Token) (old : Token) 
     → Ok may 17 1 2 body → All (Holds Trace) body → Ok may 17 2 3 (old ∷ []) → Holds Trace old → ExprOk may (guarded W j body old)
 unfolding fits
 guarded-ok may W j body old known small place ok holds old-ok old-holds = (
-  (known, (refl, (refl, ok-append may 17 1 2 1 body (old ∷ Ite ∷ []) ok (ok-append may 17 2 3 1 (old ∷ []) (Ite ∷ []) old-ok (refl, refl))))),
+  (
+    known,
+    (
+      refl,
+      (
+        refl,
+        ok-append may 17 1 2 1 body (old ∷ Ite ∷ []) ok
+            (ok-append may 17 2 3 1 (old ∷ []) (Ite ∷ []) old-ok (refl, refl)),
+      ),
+    ),
+  ),
   (small, ((omega arith), (tt, all-append (Holds Trace) body (old ∷ Ite ∷ []) holds (old-holds, (tt, tt))))),
 )
 
@@ -198,7 +214,8 @@ module _ (cut : Kind) (told : Told cut) (S limit : ℕ) (few : S ≤ 64) (short 
     control-small : c .control < 65536
     control-small = omega (arith, k .control-old)
 
-    body-ok : (e : List Token) → TableExprOk S e → Ok (σ .readable) 17 1 2 (rename (c .current) e) × All (Holds Trace) (rename (c .current) e)
+    body-ok : (e : List Token) → TableExprOk S e → Ok (σ .readable) 17 1 2 (rename (c .current) e)
+        × All (Holds Trace) (rename (c .current) e)
     body-ok e o = (
       ok-rename (below S) (σ .readable) (c .current) 1 16 0 1 e (k .current-read) (o .0),
       rename-holds (below S) (c .current) (λ s q. omega (arith, k .current-old s q)) 16 0 1 e (o .0) (o .1),
@@ -210,14 +227,17 @@ module _ (cut : Kind) (told : Told cut) (S limit : ℕ) (few : S ≤ 64) (short 
     set-ok j s e l h o =
         let b = body-ok e o in
         let q : below S s ≡ true = lt-ltb s S h in
-        guarded-ok (σ .readable) (c .control) j (rename (c .current) e) (Symbol (c .current s)) (k .control-read) control-small (omega arith) (b .0) (b .1)
+        guarded-ok (σ .readable) (c .control) j (rename (c .current) e) (Symbol (c .current s)) (k .control-read) control-small
+        (omega arith) (b .0) (b .1)
         (k .current-read s q, refl) (omega (arith, k .current-old s q))
 
-    check-ok : (j : ℕ) (e : List Token) → j < limit → TableExprOk S e → ExprOk (σ .readable) (guarded (c .control) j (rename (c .current) e) (Const 1))
+    check-ok : (j : ℕ) (e : List Token) → j < limit → TableExprOk S e
+        → ExprOk (σ .readable) (guarded (c .control) j (rename (c .current) e) (Const 1))
     unfolding fits
     check-ok j e l o =
         let b = body-ok e o in
-        guarded-ok (σ .readable) (c .control) j (rename (c .current) e) (Const 1) (k .control-read) control-small (omega arith) (b .0) (b .1) (refl, refl) (omega arith)
+        guarded-ok (σ .readable) (c .control) j (rename (c .current) e) (Const 1) (k .control-read) control-small (omega arith) (b .0)
+        (b .1) (refl, refl) (omega arith)
 
     jump-body-ok : (g : ℕ) (e : List Token) → g ≤ limit → TableExprOk S e
         → Ok (σ .readable) 17 1 2 (rename (c .current) e ++ Const g ∷ Symbol (c .control) ∷ Ite ∷ [])
@@ -225,15 +245,18 @@ module _ (cut : Kind) (told : Told cut) (S limit : ℕ) (few : S ≤ 64) (short 
     unfolding fits
     jump-body-ok g e l o =
         let b = body-ok e o in (
-          ok-append (σ .readable) 17 1 2 2 (rename (c .current) e) (Const g ∷ Symbol (c .control) ∷ Ite ∷ []) (b .0) (refl, (k .control-read, (refl, refl))),
-          all-append (Holds Trace) (rename (c .current) e) (Const g ∷ Symbol (c .control) ∷ Ite ∷ []) (b .1) ((omega arith), (control-small, (tt, tt))),
+          ok-append (σ .readable) 17 1 2 2 (rename (c .current) e) (Const g ∷ Symbol (c .control) ∷ Ite ∷ []) (b .0)
+              (refl, (k .control-read, (refl, refl))),
+          all-append (Holds Trace) (rename (c .current) e) (Const g ∷ Symbol (c .control) ∷ Ite ∷ []) (b .1)
+              ((omega arith), (control-small, (tt, tt))),
         )
 
     moves-ok : (j : ℕ) (body : List Token) → j < limit → Ok (σ .readable) 17 1 2 body → All (Holds Trace) body
         → ExprOk (σ .readable) (guarded (c .control) j body (Symbol (c .control)))
     unfolding fits
     moves-ok j body l o h =
-        guarded-ok (σ .readable) (c .control) j body (Symbol (c .control)) (k .control-read) control-small (omega arith) o h (k .control-read, refl) control-small
+        guarded-ok (σ .readable) (c .control) j body (Symbol (c .control)) (k .control-read) control-small (omega arith) o h
+        (k .control-read, refl) control-small
 
     exit-body-ok : (g : ℕ) → g ≤ limit → Ok (σ .readable) 17 1 2 (Const g ∷ []) × All (Holds Trace) (Const g ∷ [])
     unfolding fits
@@ -266,14 +289,16 @@ module _ (cut : Kind) (told : Told cut) (S limit : ℕ) (few : S ≤ 64) (short 
         statements-ok ps (makesControl c) (learnt c σ) (o .1) (known-control S c σ k) (omega arith),
       )
 
-pub unwind-well-formed : (cut : Kind) → Told cut → (S : ℕ) (is : List Instr) (K : ℕ) → All (InstrOk S (length is)) is → S ≤ 64 → length (unwind cut S is K) ≤ 4096
+pub unwind-well-formed : (cut : Kind) → Told cut → (S : ℕ) (is : List Instr) (K : ℕ) → All (InstrOk S (length is)) is → S ≤ 64
+    → length (unwind cut S is K) ≤ 4096
     → StmtsOk S (seenFirst S) (unwind cut S is K)
 unfolding unwind fits
 unwind-well-formed cut told S is K o few count =
     let l : length (unwind cut S is K) ≡ 1 + endOf (length is) K = unwind-count cut S is K in
     let m : endOf (length is) K < 65536 = omega arith in (
       ((omega arith), (omega arith), (omega arith), ((refl, refl), ((omega arith), tt))),
-      statements-ok cut told S (endOf (length is) K) few m (places is K) (atFirst S) (see (seenFirst S) (opening S)) (places-ok S is K o) (known-first S)
+      statements-ok cut told S (endOf (length is) K) few m (places is K) (atFirst S) (see (seenFirst S) (opening S)) (places-ok S is K o)
+          (known-first S)
           (omega (arith, places-count is K)),
     )
 
@@ -285,6 +310,7 @@ unwind-ok S is K o few count = unwind-well-formed Assume tt S is K o few count
 
 -- the trace of a well-formed table, within the limits, is accepted as what it is
 pub unwind-accepted : (S : ℕ) (is : List Instr) (K : ℕ) → All (InstrOk S (length is)) is → S ≤ 64 → length (unwind Assume S is K) ≤ 4096
-    → length (encodeTrace S (unwind Assume S is K)) ≤ 65535 → readTrace (encodeTrace S (unwind Assume S is K)) ≡ Accepted S (unwind Assume S is K)
+    → length (encodeTrace S (unwind Assume S is K)) ≤ 65535 → readTrace (encodeTrace S (unwind Assume S is K)) ≡ Accepted S
+    (unwind Assume S is K)
 unfolding encode
 unwind-accepted S is K o few count total = read-encode S (unwind Assume S is K) few count (omega arith) (unwind-ok S is K o few count)

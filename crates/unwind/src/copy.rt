@@ -37,8 +37,15 @@ fn write_jump(
     f: Front,
     out: &mut [u8],
 ) -> Front
-    requires { ⌜ (at < 65536) × (n ≤ 1024) × (i < n) × (r ≤ bound) × (bound ≤ 255) × (f .next < 65535) × (isGood (recordOf (instr (length (now names)) n) (drop at (now table))) ≡ true) × (f .to + length (recordsBytes stmtBytes (statements Assume (newestOf (now names) (f .control) (f .next)) (placeOf n bound r i (recordOf (instr (length (now names)) n) (drop at (now table))) ∷ []))) ≤ length (now out)) × (getD (now table) (at + 2) 0 ≡ 4) ⌝ }
-    ensures { λ g. ⌜ Written (newestOf (now (names .entry)) (f .control) (f .next)) (placeOf n bound r i (recordOf (instr (length (now (names .entry))) n) (drop at (now (table .entry)))) ∷ []) (now (out .entry)) (f .to) (now (out .exit)) (now (names .entry)) g ⌝ }
+    requires { ⌜ (at < 65536) × (n ≤ 1024) × (i < n) × (r ≤ bound) × (bound ≤ 255) × (f .next < 65535)
+        × (isGood (recordOf (instr (length (now names)) n) (drop at (now table))) ≡ true)
+        × (f .to + length (recordsBytes stmtBytes
+        (statements Assume (newestOf (now names) (f .control) (f .next))
+        (placeOf n bound r i (recordOf (instr (length (now names)) n) (drop at (now table))) ∷ []))) ≤ length (now out))
+        × (getD (now table) (at + 2) 0 ≡ 4) ⌝ }
+    ensures { λ g. ⌜ Written (newestOf (now (names .entry)) (f .control) (f .next))
+        (placeOf n bound r i (recordOf (instr (length (now (names .entry))) n) (drop at (now (table .entry)))) ∷ []) (now (out .entry))
+        (f .to) (now (out .exit)) (now (names .entry)) g ⌝ }
 {
     let e = read::expr_at(table, at);
     let t = number::two_at(table, at + 3);
@@ -83,8 +90,14 @@ fn write_place(
     f: Front,
     out: &mut [u8],
 ) -> Front
-    requires { ⌜ (at < 65536) × (n ≤ 1024) × (i < n) × (r ≤ bound) × (bound ≤ 255) × (f .next < 65535) × (isGood (recordOf (instr (length (now names)) n) (drop at (now table))) ≡ true) × (f .to + length (recordsBytes stmtBytes (statements Assume (newestOf (now names) (f .control) (f .next)) (placeOf n bound r i (recordOf (instr (length (now names)) n) (drop at (now table))) ∷ []))) ≤ length (now out)) ⌝ }
-    ensures { λ g. ⌜ Written (newestOf (now (names .entry)) (f .control) (f .next)) (placeOf n bound r i (recordOf (instr (length (now (names .entry))) n) (drop at (now (table .entry)))) ∷ []) (now (out .entry)) (f .to) (now (out .exit)) (now (names .exit)) g ⌝ }
+    requires { ⌜ (at < 65536) × (n ≤ 1024) × (i < n) × (r ≤ bound) × (bound ≤ 255) × (f .next < 65535)
+        × (isGood (recordOf (instr (length (now names)) n) (drop at (now table))) ≡ true)
+        × (f .to + length (recordsBytes stmtBytes
+        (statements Assume (newestOf (now names) (f .control) (f .next))
+        (placeOf n bound r i (recordOf (instr (length (now names)) n) (drop at (now table))) ∷ []))) ≤ length (now out)) ⌝ }
+    ensures { λ g. ⌜ Written (newestOf (now (names .entry)) (f .control) (f .next))
+        (placeOf n bound r i (recordOf (instr (length (now (names .entry))) n) (drop at (now (table .entry)))) ∷ []) (now (out .entry))
+        (f .to) (now (out .exit)) (now (names .exit)) g ⌝ }
 {
     let kind = table[at + 2];
     if kind == 4 {
@@ -124,8 +137,14 @@ fn write_copy(
     f: Front,
     out: &mut [u8],
 ) -> Front
-    requires { ⌜ (r ≤ bound) × (bound ≤ 255) × (f .next + (n + 1) ≤ 65535) × Ready (now table) (now offsets) n × (headerInputs (now table) ≤ length (now names)) × (f .to + length (recordsBytes stmtBytes (statements Assume (newestOf (now names) (f .control) (f .next)) (copyFrom n bound r 0 (listed (readTable (now table)))))) ≤ length (now out)) ⌝ }
-    ensures { λ g. ⌜ Written (newestOf (now (names .entry)) (f .control) (f .next)) (copyFrom n bound r 0 (listed (readTable (now (table .entry))))) (now (out .entry)) (f .to) (now (out .exit)) (now (names .exit)) g ⌝ }
+    requires { ⌜ (r ≤ bound) × (bound ≤ 255) × (f .next + (n + 1) ≤ 65535) × Ready (now table) (now offsets) n
+        × (headerInputs (now table) ≤ length (now names))
+        × (f .to + length (recordsBytes stmtBytes
+        (statements Assume (newestOf (now names) (f .control) (f .next)) (copyFrom n bound r 0 (listed (readTable (now table))))))
+        ≤ length (now out)) ⌝ }
+    ensures { λ g. ⌜ Written (newestOf (now (names .entry)) (f .control) (f .next))
+        (copyFrom n bound r 0 (listed (readTable (now (table .entry))))) (now (out .entry)) (f .to) (now (out .exit)) (now (names .exit)) g
+        ⌝ }
 {
     let mut i: usize = 0;
     let mut g = f;
@@ -154,8 +173,14 @@ pub fn write_copies(
     f: Front,
     out: &mut [u8],
 ) -> usize
-    requires { ⌜ (bound ≤ 255) × (f .next + (bound + 1) * (n + 1) ≤ 65535) × Ready (now table) (now offsets) n × (headerInputs (now table) ≤ length (now names)) × (f .to + length (recordsBytes stmtBytes (statements Assume (newestOf (now names) (f .control) (f .next)) (places (listed (readTable (now table))) bound))) ≤ length (now out)) ⌝ }
-    ensures { λ r. ⌜ Wrote (now (out .entry)) (f .to) (recordsBytes stmtBytes (statements Assume (newestOf (now (names .entry)) (f .control) (f .next)) (places (listed (readTable (now (table .entry)))) bound))) (now (out .exit)) r ⌝ }
+    requires { ⌜ (bound ≤ 255) × (f .next + (bound + 1) * (n + 1) ≤ 65535) × Ready (now table) (now offsets) n
+        × (headerInputs (now table) ≤ length (now names))
+        × (f .to + length (recordsBytes stmtBytes
+        (statements Assume (newestOf (now names) (f .control) (f .next)) (places (listed (readTable (now table))) bound)))
+        ≤ length (now out)) ⌝ }
+    ensures { λ r. ⌜ Wrote (now (out .entry)) (f .to)
+        (recordsBytes stmtBytes (statements Assume (newestOf (now (names .entry)) (f .control) (f .next))
+        (places (listed (readTable (now (table .entry)))) bound))) (now (out .exit)) r ⌝ }
 {
     let mut r: usize = 0;
     let mut g = f;

@@ -61,8 +61,10 @@ fn write_all(
     total: usize,
     out: &mut [u8],
 )
-    requires { ⌜ Ready (now table) (now offsets) n × (bound ≤ 255) × (count ≡ 1 + (bound + 1) * (n + 1)) × (count ≤ 4096) × (total ≡ traceSize (listed (readTable (now table))) bound) × (total ≤ length (now out)) ⌝ }
-    ensures { λ _. ⌜ now (out .exit) ≡ over (encodeTrace (headerInputs (now (table .entry))) (unwind Assume (headerInputs (now (table .entry))) (listed (readTable (now (table .entry)))) bound)) (now (out .entry)) ⌝ }
+    requires { ⌜ Ready (now table) (now offsets) n × (bound ≤ 255) × (count ≡ 1 + (bound + 1) * (n + 1)) × (count ≤ 4096)
+        × (total ≡ traceSize (listed (readTable (now table))) bound) × (total ≤ length (now out)) ⌝ }
+    ensures { λ _. ⌜ now (out .exit) ≡ over (encodeTrace (headerInputs (now (table .entry)))
+        (unwind Assume (headerInputs (now (table .entry))) (listed (readTable (now (table .entry)))) bound)) (now (out .entry)) ⌝ }
 {
     let inputs = table[3] as usize;
     let a = write::put_header(129, total, inputs, count, out);

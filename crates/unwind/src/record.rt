@@ -97,8 +97,12 @@ pub fn put_assign(
     out: &mut [u8],
     at: usize,
 ) -> usize
-    requires { ⌜ (j < 4294967296) × (isWhole (parse Table (below (length (now names))) (now e)) ≡ true) × (at + (20 + exprSize (tokensOf (parse Table (below (length (now names))) (now e)))) ≤ length (now out)) ⌝ }
-    ensures { λ r. ⌜ Wrote (now (out .entry)) at (recordBytes stmtBytes (Assign j new (guarded w j (rename (currentOf (now (names .entry))) (tokensOf (parse Table (below (length (now (names .entry)))) (now (e .entry))))) (Symbol old)))) (now (out .exit)) r ⌝ }
+    requires { ⌜ (j < 4294967296) × (isWhole (parse Table (below (length (now names))) (now e)) ≡ true)
+        × (at + (20 + exprSize (tokensOf (parse Table (below (length (now names))) (now e)))) ≤ length (now out)) ⌝ }
+    ensures { λ r. ⌜ Wrote (now (out .entry)) at
+        (recordBytes stmtBytes (Assign j new
+        (guarded w j (rename (currentOf (now (names .entry)))
+        (tokensOf (parse Table (below (length (now (names .entry)))) (now (e .entry))))) (Symbol old)))) (now (out .exit)) r ⌝ }
 {
     let a = open_assign(j, new, out, at);
     let b = put_guard(w, j, out, a);
@@ -117,8 +121,13 @@ pub fn put_test(
     out: &mut [u8],
     at: usize,
 ) -> usize
-    requires { ⌜ (j < 4294967296) × (isWhole (parse Table (below (length (now names))) (now e)) ≡ true) × (at + (20 + exprSize (tokensOf (parse Table (below (length (now names))) (now e)))) ≤ length (now out)) × (2 ≤ kind) × (kind ≤ 3) ⌝ }
-    ensures { λ r. ⌜ Wrote (now (out .entry)) at (recordBytes stmtBytes (Test (kindOf kind) j (guarded w j (rename (currentOf (now (names .entry))) (tokensOf (parse Table (below (length (now (names .entry)))) (now (e .entry))))) (Const 1)))) (now (out .exit)) r ⌝ }
+    requires { ⌜ (j < 4294967296) × (isWhole (parse Table (below (length (now names))) (now e)) ≡ true)
+        × (at + (20 + exprSize (tokensOf (parse Table (below (length (now names))) (now e)))) ≤ length (now out)) × (2 ≤ kind)
+        × (kind ≤ 3) ⌝ }
+    ensures { λ r. ⌜ Wrote (now (out .entry)) at
+        (recordBytes stmtBytes (Test (kindOf kind) j
+        (guarded w j (rename (currentOf (now (names .entry)))
+        (tokensOf (parse Table (below (length (now (names .entry)))) (now (e .entry))))) (Const 1)))) (now (out .exit)) r ⌝ }
 {
     let a = open_test(kind, j, out, at);
     let b = put_guard(w, j, out, a);
@@ -138,8 +147,15 @@ pub fn put_jump(
     out: &mut [u8],
     at: usize,
 ) -> usize
-    requires { ⌜ (j < 4294967296) × (isWhole (parse Table (below (length (now names))) (now e)) ≡ true) × (at + (29 + exprSize (tokensOf (parse Table (below (length (now names))) (now e)))) ≤ length (now out)) × (goal < 4294967296) ⌝ }
-    ensures { λ r. ⌜ Wrote (now (out .entry)) at (recordBytes stmtBytes (Assign j new (guarded w j (rename (currentOf (now (names .entry))) (tokensOf (parse Table (below (length (now (names .entry)))) (now (e .entry)))) ++ Const goal ∷ Symbol w ∷ Ite ∷ []) (Symbol w)))) (now (out .exit)) r ⌝ }
+    requires { ⌜ (j < 4294967296) × (isWhole (parse Table (below (length (now names))) (now e)) ≡ true)
+        × (at + (29 + exprSize (tokensOf (parse Table (below (length (now names))) (now e)))) ≤ length (now out))
+        × (goal < 4294967296) ⌝ }
+    ensures { λ r. ⌜ Wrote (now (out .entry)) at
+        (recordBytes stmtBytes (Assign j new
+        (guarded w j (rename (currentOf (now (names .entry)))
+        (tokensOf (parse Table (below (length (now (names .entry)))) (now (e .entry)))) ++ Const goal ∷ Symbol w ∷ Ite ∷ [])
+        (Symbol w))))
+        (now (out .exit)) r ⌝ }
 {
     let a = open_assign(j, new, out, at);
     let b = put_guard(w, j, out, a);
@@ -152,8 +168,13 @@ pub fn put_jump(
 
 // A back jump of the last copy, at place j: an Assume that its condition is zero.
 pub fn put_bound(e: &[u8], names: &[u16], w: usize, j: usize, out: &mut [u8], at: usize) -> usize
-    requires { ⌜ (j < 4294967296) × (isWhole (parse Table (below (length (now names))) (now e)) ≡ true) × (at + (21 + exprSize (tokensOf (parse Table (below (length (now names))) (now e)))) ≤ length (now out)) ⌝ }
-    ensures { λ r. ⌜ Wrote (now (out .entry)) at (recordBytes stmtBytes (Test Assume j (guarded w j (rename (currentOf (now (names .entry))) (tokensOf (parse Table (below (length (now (names .entry)))) (now (e .entry))) ++ Un Zero ∷ [])) (Const 1)))) (now (out .exit)) r ⌝ }
+    requires { ⌜ (j < 4294967296) × (isWhole (parse Table (below (length (now names))) (now e)) ≡ true)
+        × (at + (21 + exprSize (tokensOf (parse Table (below (length (now names))) (now e)))) ≤ length (now out)) ⌝ }
+    ensures { λ r. ⌜ Wrote (now (out .entry)) at
+        (recordBytes stmtBytes (Test Assume j
+        (guarded w j (rename (currentOf (now (names .entry)))
+        (tokensOf (parse Table (below (length (now (names .entry)))) (now (e .entry))) ++ Un Zero ∷ [])) (Const 1)))) (now (out .exit))
+        r ⌝ }
 {
     let a = open_test(2, j, out, at);
     let b = put_guard(w, j, out, a);
@@ -166,7 +187,8 @@ pub fn put_bound(e: &[u8], names: &[u16], w: usize, j: usize, out: &mut [u8], at
 // An exit at place j to the place `goal`: an Assign of the symbol `new`, the next W.
 pub fn put_exit(w: usize, j: usize, new: usize, goal: usize, out: &mut [u8], at: usize) -> usize
     requires { ⌜ (j < 4294967296) × (goal < 4294967296) × (at + 25 ≤ length (now out)) ⌝ }
-    ensures { λ r. ⌜ Wrote (now (out .entry)) at (recordBytes stmtBytes (Assign j new (guarded w j (Const goal ∷ []) (Symbol w)))) (now (out .exit)) r ⌝ }
+    ensures { λ r. ⌜ Wrote (now (out .entry)) at (recordBytes stmtBytes (Assign j new (guarded w j (Const goal ∷ []) (Symbol w))))
+        (now (out .exit)) r ⌝ }
 {
     let a = open_assign(j, new, out, at);
     let b = put_guard(w, j, out, a);

@@ -22,7 +22,8 @@ struct Sizes {
 // The record of instruction i, which stands at a place of the table.
 fn instr_sizes(table: &[u8], at: usize, n: usize, i: usize) -> Sizes
     requires { ⌜ (at < 65536) × (length (now table) < 65536) × (isGood (recordOf (instr 64 n) (drop at (now table))) ≡ true) ⌝ }
-    ensures { λ r. ⌜ (r .early ≡ sizeIn false i (recordOf (instr 64 n) (drop at (now (table .entry))))) × (r .last ≡ sizeIn true i (recordOf (instr 64 n) (drop at (now (table .entry))))) × (r .early ≤ 131200) × (r .last ≤ 131200) ⌝ }
+    ensures { λ r. ⌜ (r .early ≡ sizeIn false i (recordOf (instr 64 n) (drop at (now (table .entry)))))
+        × (r .last ≡ sizeIn true i (recordOf (instr 64 n) (drop at (now (table .entry))))) × (r .early ≤ 131200) × (r .last ≤ 131200) ⌝ }
 {
     let kind = table[at + 2];
     let size = tokens::expr_size(read::expr_at(table, at));
@@ -46,7 +47,8 @@ fn instr_sizes(table: &[u8], at: usize, n: usize, i: usize) -> Sizes
 
 fn copy_sizes(table: &[u8], offsets: &[u16], n: usize) -> Sizes
     requires { ⌜ Ready (now table) (now offsets) n ⌝ }
-    ensures { λ r. ⌜ (r .early ≡ copySize false 0 (listed (readTable (now (table .entry))))) × (r .last ≡ copySize true 0 (listed (readTable (now (table .entry))))) × (r .early ≤ 134348825) × (r .last ≤ 134348825) ⌝ }
+    ensures { λ r. ⌜ (r .early ≡ copySize false 0 (listed (readTable (now (table .entry)))))
+        × (r .last ≡ copySize true 0 (listed (readTable (now (table .entry))))) × (r .early ≤ 134348825) × (r .last ≤ 134348825) ⌝ }
 {
     let mut i: usize = 0;
     let mut early: usize = 25;

@@ -21,8 +21,10 @@ struct Put {
 
 // The token at a place of an expression.
 fn put_token(e: &[u8], i: usize, names: &[u16], out: &mut [u8], at: usize) -> Put
-    requires { ⌜ (i < length (now e)) × Stands Table (length (now names)) (now e) i × (at + length (renamedBytes (currentOf (now names)) (readToken Table (drop i (now e)))) ≤ length (now out)) ⌝ }
-    ensures { λ r. ⌜ (r .size ≡ sizeOf Table (readToken Table (drop i (now (e .entry))))) × Wrote (now (out .entry)) at (renamedBytes (currentOf (now (names .entry))) (readToken Table (drop i (now (e .entry))))) (now (out .exit)) (r .to) ⌝ }
+    requires { ⌜ (i < length (now e)) × Stands Table (length (now names)) (now e) i
+        × (at + length (renamedBytes (currentOf (now names)) (readToken Table (drop i (now e)))) ≤ length (now out)) ⌝ }
+    ensures { λ r. ⌜ (r .size ≡ sizeOf Table (readToken Table (drop i (now (e .entry))))) × Wrote (now (out .entry)) at
+        (renamedBytes (currentOf (now (names .entry))) (readToken Table (drop i (now (e .entry))))) (now (out .exit)) (r .to) ⌝ }
 {
     let code = e[i];
     if code == 0x01 {
@@ -48,8 +50,11 @@ fn put_token(e: &[u8], i: usize, names: &[u16], out: &mut [u8], at: usize) -> Pu
 
 // A whole expression.
 pub fn put_tokens(e: &[u8], names: &[u16], out: &mut [u8], at: usize) -> usize
-    requires { ⌜ (isWhole (parse Table (below (length (now names))) (now e)) ≡ true) × (at + exprSize (tokensOf (parse Table (below (length (now names))) (now e))) ≤ length (now out)) ⌝ }
-    ensures { λ r. ⌜ Wrote (now (out .entry)) at (exprBytes Trace (rename (currentOf (now (names .entry))) (tokensOf (parse Table (below (length (now (names .entry)))) (now (e .entry)))))) (now (out .exit)) r ⌝ }
+    requires { ⌜ (isWhole (parse Table (below (length (now names))) (now e)) ≡ true)
+        × (at + exprSize (tokensOf (parse Table (below (length (now names))) (now e))) ≤ length (now out)) ⌝ }
+    ensures { λ r. ⌜ Wrote (now (out .entry)) at
+        (exprBytes Trace (rename (currentOf (now (names .entry)))
+        (tokensOf (parse Table (below (length (now (names .entry)))) (now (e .entry)))))) (now (out .exit)) r ⌝ }
 {
     let mut i: usize = 0;
     let mut to = at;

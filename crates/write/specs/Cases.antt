@@ -9,5 +9,6 @@ unfolding splice
 stored = (refl, refl)
 
 -- a result from the first byte on, the rest as it was
-left : (over (5 ∷ 6 ∷ []) (1 ∷ 2 ∷ 3 ∷ 4 ∷ []) ≡ 5 ∷ 6 ∷ 3 ∷ 4 ∷ []) × (over [] (1 ∷ 2 ∷ []) ≡ 1 ∷ 2 ∷ []) × (over (5 ∷ []) (1 ∷ []) ≡ 5 ∷ [])
+left : (over (5 ∷ 6 ∷ []) (1 ∷ 2 ∷ 3 ∷ 4 ∷ []) ≡ 5 ∷ 6 ∷ 3 ∷ 4 ∷ []) × (over [] (1 ∷ 2 ∷ []) ≡ 1 ∷ 2 ∷ [])
+    × (over (5 ∷ []) (1 ∷ []) ≡ 5 ∷ [])
 left = (refl, refl, refl)

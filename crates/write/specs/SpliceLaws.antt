@@ -1,4 +1,5 @@
--- The laws of writing, none of which asks that the bytes fit: writers one after the other, a writing loop, and what stands in the buffer then.
+-- The laws of writing, none of which asks that the bytes fit: writers one after the other, a writing loop, and what stands in the buffer
+-- then.
 use Prim.Native.Nat.{ℕ, suc, _+_, _≤_, _<_}
 use native.Mathlib.Omega.{arith}
 use native.Mathlib.Nat.{add-zero, add-suc, suc-add, add-assoc, zero-add}
@@ -29,7 +30,8 @@ splice-append at (x ∷ a) b xs =
 set-splice : (at x k : ℕ) (bs xs : List ℕ) → at < k → set (splice k bs xs) at x ≡ splice k bs (set xs at x)
 unfolding splice
 set-splice at x k [] xs h = refl
-set-splice at x k (b ∷ bs) xs h = set-splice at x (suc k) bs (set xs k b) (omega arith) ∙ ap (λ ys. sets ys (suc k) bs) (set-comm xs k at b x (λ e. omega arith))
+set-splice at x k (b ∷ bs) xs h =
+    set-splice at x (suc k) bs (set xs k b) (omega arith) ∙ ap (λ ys. sets ys (suc k) bs) (set-comm xs k at b x (λ e. omega arith))
 
 -- also where the first is stored last
 pub splice-behind : (at : ℕ) (a b xs : List ℕ) → splice at a (splice (at + length a) b xs) ≡ splice at (a ++ b) xs
@@ -63,7 +65,8 @@ module _ {o : List ℕ} {at : ℕ} {a p : List ℕ} {m : ℕ} where
   wrote-length w = ap length (w .buffer) ∙ length-splice at a o
 
 -- a part that is written before the one in front of it
-pub behind : (at : ℕ) (a : List ℕ) {o b p q : List ℕ} {m n r : ℕ} → m ≡ at + length a → Wrote o m b p n → q ≡ splice at a p → r ≡ n → Wrote o at (a ++ b) q r
+pub behind : (at : ℕ) (a : List ℕ) {o b p q : List ℕ} {m n r : ℕ} → m ≡ at + length a → Wrote o m b p n → q ≡ splice at a p → r ≡ n
+    → Wrote o at (a ++ b) q r
 behind at a {o} {b} e w h k = record {
   buffer = h ∙ ap (splice at a) (w .buffer ∙ ap (λ k. splice k b o) e) ∙ splice-behind at a b o;
   next = omega (arith, w .next, length-append a b);

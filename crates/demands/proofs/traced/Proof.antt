@@ -23,16 +23,27 @@ same-length c = search needs
 
 module _ (c : tie.After-slice-known4) where
   abbrev due : ℕ → Traced
-  due room = traceAnswer (c .before .before .before .before .before .before .before .before .before .before .before .before .before .before .args .rule .now) (c .before .before .before .before .before .before .before .before .before .before .before .before .before .before .args .bound) room
+  due room =
+      traceAnswer (c .before .before .before .before .before .before .before .before .before .before .before .before .before .before .args
+      .rule .now) (c .before .before .before .before .before .before .before .before .before .before .before .before .before .before .args
+      .bound) room
 
   abbrev out : List ℕ
   out = c .before .before .before .before .before .before .before .before .before .before .before .before .before .before .args .out .now
 
-  first : Left (λ n. (due n) .bytes) out (c .before .before .before .before .before .before .before .before .before .before .kadvitul-trace-reply .last .1 .1 .0)
-  first = record { room = c .before .before .before .before .before .before .before .before .before .before .kadvitul-trace-reply .kept .1 .1 .0; buffer = c .before .before .before .before .before .before .before .before .before .before .kadvitul-trace-reply .ensures .buffer }
+  first : Left (λ n. (due n) .bytes) out (c .before .before .before .before .before .before .before .before .before .before
+      .kadvitul-trace-reply .last .1 .1 .0)
+  first = record {
+    room = c .before .before .before .before .before .before .before .before .before .before .kadvitul-trace-reply .kept
+        .1 .1 .0;
+    buffer = c .before .before .before .before .before .before .before .before .before .before .kadvitul-trace-reply .ensures
+        .buffer;
+  }
 
   second : Left (λ n. (due n) .bytes) out (c .before .before .before .before .before .before .kadvitul-trace-offset .last .1 .1 .0)
-  second = again first (c .before .before .before .before .before .before .kadvitul-trace-offset .kept .1 .1 .0) (c .before .before .before .before .before .before .kadvitul-trace-offset .ensures .buffer)
+  second =
+      again first (c .before .before .before .before .before .before .kadvitul-trace-offset .kept .1 .1 .0)
+      (c .before .before .before .before .before .before .kadvitul-trace-offset .ensures .buffer)
 
   third : Left (λ n. (due n) .bytes) out (c .before .before .kadvitul-trace-length .last .1 .1 .0)
   third = again second (c .before .before .kadvitul-trace-length .kept .1 .1 .0) (c .before .before .kadvitul-trace-length .ensures .buffer)
@@ -41,7 +52,9 @@ returns : tie.Need-returns
 returns c = record {
   answer = λ i. record {
     reply = c .before .before .before .before .before .before .before .before .before .before .kadvitul-trace-reply .ensures .number i;
-    offset = (c .before .before .before .before .before .before .kadvitul-trace-offset .ensures .number ∙ ap (λ n. (due c n) .offset) (first c .room)) i;
+    offset =
+        (c .before .before .before .before .before .before .kadvitul-trace-offset .ensures .number
+        ∙ ap (λ n. (due c n) .offset) (first c .room)) i;
     length = (c .before .before .kadvitul-trace-length .ensures .number ∙ ap (λ n. length ((due c n) .bytes)) (second c .room)) i;
   };
   buffer = third c .buffer;

@@ -42,14 +42,19 @@ loop-less c = omega arith
 loop-again : tie.Need-loop-again Inv-loop μ-loop
 loop-again c =
     let v = c .before .before .loop in
-    let a = c .before .before .before .args in
-    (omega arith, ap (λ x. set x (v .s) (getD (a .words .now) (v .s) 0)) (v .inv .1) ∙ copy-next (a .cells .now) (a .words .now) (v .s) (c .before .loop-test .taken))
+    let a = c .before .before .before .args in (
+      omega arith,
+      ap (λ x. set x (v .s) (getD (a .words .now) (v .s) 0)) (v .inv .1)
+          ∙ copy-next (a .cells .now) (a .words .now) (v .s) (c .before .loop-test .taken),
+    )
 
 same-length : tie.Need-same-length Inv-loop μ-loop
 same-length c = long (c .before)
 
 returns : tie.Need-returns Inv-loop μ-loop
-returns c = c .before .loop .inv .1 ∙ ap (sets (c .before .before .args .cells .now) 0) (take-all (c .before .loop .s) (c .before .before .args .words .now) (c .loop-test .left))
+returns c =
+    c .before .loop .inv .1 ∙ ap (sets (c .before .before .args .cells .now) 0)
+    (take-all (c .before .loop .s) (c .before .before .args .words .now) (c .loop-test .left))
 
 pub copy-words-spec : {M : Type 1} → statement M
 copy-words-spec =

@@ -24,10 +24,13 @@ enum-told-2 : tie.Need-enum-told-2
 enum-told-2 c = search needs
 
 returns : tie.Need-returns
-returns c = let s = c .before .before .before .before .before .before .args in expr-fine (s .f) (readable (s .inputs) (s .assigned .now)) (s .from) (s .body .now) _ (sym (c .before .before .check-expr .ensures) ∙ c .enum-told .given .1)
+returns c = let s = c .before .before .before .before .before .before .args in expr-fine (s .f) (readable (s .inputs) (s .assigned .now))
+    (s .from) (s .body .now) _ (sym (c .before .before .check-expr .ensures) ∙ c .enum-told .given .1)
 
 returns-2 : tie.Need-returns-2
-returns-2 c = let s = c .before .before .before .before .before .before .args in expr-broken (s .f) (readable (s .inputs) (s .assigned .now)) (s .from) (s .body .now) _ _ (sym (c .before .before .check-expr .ensures) ∙ c .enum-told2 .given .1)
+returns-2 c = let s = c .before .before .before .before .before .before .args in
+    expr-broken (s .f) (readable (s .inputs) (s .assigned .now)) (s .from) (s .body .now) _ _ (sym (c .before .before .check-expr .ensures)
+    ∙ c .enum-told2 .given .1)
 
 pub expr-reply-spec : {M : Type 1} → statement M
 expr-reply-spec =

@@ -10,7 +10,8 @@ sub-left : tie.Need-sub-left
 sub-left c = search needs
 
 returns : tie.Need-returns
-returns c = let s = c .before .before .args in sym (frame-missing (drop (s .at) (s .s .now)) (omega (arith, length-drop (s .at) (s .s .now))))
+returns c = let s = c .before .before .args in
+    sym (frame-missing (drop (s .at) (s .s .now)) (omega (arith, length-drop (s .at) (s .s .now))))
 
 two-at-requires : tie.Need-two-at-requires
 two-at-requires c κs = search needs

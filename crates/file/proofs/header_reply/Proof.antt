@@ -21,25 +21,59 @@ two-at-requires c κs = search needs
 
 returns-3 : tie.Need-returns-3
 unfolding headerReply
-returns-3 c = simp (le-leb 6 _ (c .before .before .before .before .if1 .left), eq-eqb _ _ (c .before .before .if2 .left), ne-eqb _ _ (λ e. c .if3 .taken (c .before .two-at .ensures .0 ∙ e)))
+returns-3 c =
+    simp (
+      le-leb 6 _ (c .before .before .before .before .if1 .left),
+      eq-eqb _ _ (c .before .before .if2 .left),
+      ne-eqb _ _
+          (λ e. c .if3 .taken (c .before .two-at .ensures .0 ∙ e)),
+    )
 
 shared-slice-read-if4 : tie.Need-shared-slice-read-if4
 shared-slice-read-if4 c = search needs
 
 returns-4 : tie.Need-returns-4
 unfolding headerReply
-returns-4 c = simp (le-leb 6 _ (c .before .before .before .before .before .before .if1 .left), eq-eqb _ _ (c .before .before .before .before .if2 .left), eq-eqb _ _ (sym (c .before .before .before .two-at .ensures .0) ∙ c .before .before .if3 .left), lt-leb _ 64 (c .if4 .taken))
+returns-4 c =
+    simp (
+      le-leb 6 _ (c .before .before .before .before .before .before .if1 .left),
+      eq-eqb _ _
+          (c .before .before .before .before .if2 .left),
+      eq-eqb _ _ (sym (c .before .before .before .two-at .ensures .0)
+          ∙ c .before .before .if3 .left),
+      lt-leb _ 64 (c .if4 .taken),
+    )
 
 two-at-requires-2 : tie.Need-two-at-requires-2
 two-at-requires-2 c κs = search needs
 
 returns-5 : tie.Need-returns-5
 unfolding headerReply
-returns-5 c = simp (le-leb 6 _ (c .before .before .before .before .before .before .before .before .if1 .left), eq-eqb _ _ (c .before .before .before .before .before .before .if2 .left), eq-eqb _ _ (sym (c .before .before .before .before .before .two-at .ensures .0) ∙ c .before .before .before .before .if3 .left), le-leb _ 64 (c .before .before .if4 .left), lt-leb _ _ (rw (c .before .two-at2 .ensures .0) at (c .if5 .taken)))
+returns-5 c =
+    simp (
+      le-leb 6 _ (c .before .before .before .before .before .before .before .before .if1 .left),
+      eq-eqb _ _
+          (c .before .before .before .before .before .before .if2 .left),
+      eq-eqb _ _
+          (sym (c .before .before .before .before .before .two-at .ensures .0) ∙ c .before .before .before .before .if3 .left),
+      le-leb _ 64
+          (c .before .before .if4 .left),
+      lt-leb _ _ (rw (c .before .two-at2 .ensures .0) at (c .if5 .taken)),
+    )
 
 returns-6 : tie.Need-returns-6
 unfolding headerReply
-returns-6 c = simp (le-leb 6 _ (c .before .before .before .before .before .before .before .before .if1 .left), eq-eqb _ _ (c .before .before .before .before .before .before .if2 .left), eq-eqb _ _ (sym (c .before .before .before .before .before .two-at .ensures .0) ∙ c .before .before .before .before .if3 .left), le-leb _ 64 (c .before .before .if4 .left), le-leb _ _ (rw (c .before .two-at2 .ensures .0) at (c .if5 .left)))
+returns-6 c =
+    simp (
+      le-leb 6 _ (c .before .before .before .before .before .before .before .before .if1 .left),
+      eq-eqb _ _
+          (c .before .before .before .before .before .before .if2 .left),
+      eq-eqb _ _
+          (sym (c .before .before .before .before .before .two-at .ensures .0) ∙ c .before .before .before .before .if3 .left),
+      le-leb _ 64
+          (c .before .before .if4 .left),
+      le-leb _ _ (rw (c .before .two-at2 .ensures .0) at (c .if5 .left)),
+    )
 
 pub header-reply-spec : {M : Type 1} → statement M
 header-reply-spec =

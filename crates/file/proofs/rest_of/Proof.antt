@@ -33,7 +33,8 @@ returns : tie.Need-returns
 returns c =
     let a = c .before .before .before .args in
     let n = c .before .two-at .result in
-    let e : a .at + (2 + n) - (a .at + a .from) ≡ 2 + numberOf 2 (drop (a .at) (a .s .now)) - a .from = omega (arith, c .before .two-at .ensures .0) in
+    let e : a .at + (2 + n) - (a .at + a .from) ≡ 2 + numberOf 2 (drop (a .at) (a .s .now)) - a .from =
+    omega (arith, c .before .two-at .ensures .0) in
     ap (λ m. take m (drop (a .at + a .from) (a .s .now))) e
 
 pub rest-of-spec : {M : Type 1} → statement M

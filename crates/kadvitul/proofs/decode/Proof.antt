@@ -17,7 +17,9 @@ abbrev μ-loop : tie.MeasureT-loop
 
 -- stores keep the length
 long : (c : tie.At-loop Inv-loop μ-loop) → length (c .loop .words) ≡ length (c .before .before .before .args .words .now)
-long c = ap length (c .loop .inv .1) ∙ length-sets (c .before .before .before .args .words .now) 0 (wordsOf (c .loop .s) (c .before .before .before .args .valuation .now))
+long c =
+    ap length (c .loop .inv .1) ∙ length-sets (c .before .before .before .args .words .now) 0
+    (wordsOf (c .loop .s) (c .before .before .before .args .valuation .now))
 
 loop-holds : tie.Need-loop-holds Inv-loop μ-loop
 loop-holds c = (omega arith, refl)
@@ -42,14 +44,21 @@ loop-less c = omega arith
 
 loop-again : tie.Need-loop-again Inv-loop μ-loop
 loop-again c =
-    let v = c .before .before .loop in
-    (omega arith, ap (λ x. set x (v .s) (c .word-at .result)) (v .inv .1) ∙ words-store (c .before .before .before .before .before .args .words .now) (v .s) (c .before .before .before .before .before .args .valuation .now) (c .word-at .result) (c .word-at .ensures))
+    let v = c .before .before .loop in (
+      omega arith,
+      ap (λ x. set x (v .s) (c .word-at .result)) (v .inv .1)
+          ∙ words-store (c .before .before .before .before .before .args .words .now) (v .s)
+          (c .before .before .before .before .before .args .valuation .now) (c .word-at .result) (c .word-at .ensures),
+    )
 
 same-length : tie.Need-same-length Inv-loop μ-loop
 same-length c = long (c .before)
 
 returns : tie.Need-returns Inv-loop μ-loop
-returns c = c .before .loop .inv .1 ∙ ap (λ n. sets (c .before .before .before .before .args .words .now) 0 (wordsOf n (c .before .before .before .before .args .valuation .now))) (let e : c .before .loop .s ≡ c .before .before .before .before .args .count = omega arith in e)
+returns c =
+    c .before .loop .inv .1 ∙ ap (λ n. sets (c .before .before .before .before .args .words .now) 0
+    (wordsOf n (c .before .before .before .before .args .valuation .now)))
+    (let e : c .before .loop .s ≡ c .before .before .before .before .args .count = omega arith in e)
 
 pub decode-spec : {M : Type 1} → statement M
 decode-spec =

@@ -16,13 +16,17 @@ array-share-prefix-words : tie.Need-array-share-prefix-words
 array-share-prefix-words c = search needs
 
 slice-aggregate-judge : tie.Need-slice-aggregate-judge
-slice-aggregate-judge c = sym (length-take-le (c .before .before .words-in .result) (c .before .before .words-in .last .1 .0) (omega (arith, c .before .before .words-in .ensures .room, c .before .before .words-in .ensures .most)))
+slice-aggregate-judge c =
+    sym (length-take-le (c .before .before .words-in .result) (c .before .before .words-in .last .1 .0)
+    (omega (arith, c .before .before .words-in .ensures .room, c .before .before .words-in .ensures .most)))
 
 judge-requires : tie.Need-judge-requires
 judge-requires c κs = search needs
 
 returns : tie.Need-returns
-returns c = c .judge .ensures .answer ∙ judge-words (c .before .before .before .words-in .ensures) (c .before .before .before .before .before .before .before .args .trace .now)
+returns c =
+    c .judge .ensures .answer ∙ judge-words (c .before .before .before .words-in .ensures)
+    (c .before .before .before .before .before .before .before .args .trace .now)
 
 pub judge-bytes-spec : {M : Type 1} → statement M
 judge-bytes-spec =

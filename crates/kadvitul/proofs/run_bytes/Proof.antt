@@ -16,13 +16,18 @@ array-share-prefix-words : tie.Need-array-share-prefix-words
 array-share-prefix-words c = search needs
 
 slice-aggregate-run : tie.Need-slice-aggregate-run
-slice-aggregate-run c = sym (length-take-le (c .before .before .words-in .result) (c .before .before .words-in .last .1 .0) (omega (arith, c .before .before .words-in .ensures .room, c .before .before .words-in .ensures .most)))
+slice-aggregate-run c =
+    sym (length-take-le (c .before .before .words-in .result) (c .before .before .words-in .last .1 .0)
+    (omega (arith, c .before .before .words-in .ensures .room, c .before .before .words-in .ensures .most)))
 
 run-requires : tie.Need-run-requires
 run-requires c κs = search needs
 
 returns : tie.Need-returns
-returns c = c .run .ensures .answer ∙ run-words (c .before .before .before .words-in .ensures) (c .before .before .before .before .before .before .before .args .rule .now) (c .before .before .before .before .before .before .before .args .bound)
+returns c =
+    c .run .ensures .answer ∙ run-words (c .before .before .before .words-in .ensures)
+    (c .before .before .before .before .before .before .before .args .rule .now)
+    (c .before .before .before .before .before .before .before .args .bound)
 
 pub run-bytes-spec : {M : Type 1} → statement M
 run-bytes-spec =

@@ -20,7 +20,10 @@ same-length : tie.Need-same-length
 same-length c = search needs
 
 returns-3 : tie.Need-returns-3
-returns-3 c = all-words (c .before .before .before .before .before .before .before .before .args .words .now) (c .before .before .before .before .before .before .before .before .pre) _ (c .before .before .decode .ensures) (omega arith) (c .before .before .before .before .before .if1 .left)
+returns-3 c =
+    all-words (c .before .before .before .before .before .before .before .before .args .words .now)
+    (c .before .before .before .before .before .before .before .before .pre) _ (c .before .before .decode .ensures) (omega arith)
+    (c .before .before .before .before .before .if1 .left)
 
 pub words-in-spec : {M : Type 1} → statement M
 words-in-spec =

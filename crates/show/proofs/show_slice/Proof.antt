@@ -32,19 +32,24 @@ module _ (c : tie.After-write-trace) where
   abbrev due : Traced
   due = traceAnswer (drop 1 s) (getD s 0 0) 65535
 
-  written : TraceWritten table (getD s 0 0) (c .before .before .before .room .result) (c .write-trace .last .1 .1 .0) (c .write-trace .result)
+  written : TraceWritten table (getD s 0 0) (c .before .before .before .room .result) (c .write-trace .last .1 .1 .0)
+      (c .write-trace .result)
   written = c .write-trace .ensures
 
   due-is : traceAnswer table (getD s 0 0) (length (c .before .before .before .room .result)) ≡ due
-  due-is = ap (λ n. traceAnswer table (getD s 0 0) n) (c .before .before .before .room .ensures) ∙ ap (λ b. traceAnswer b (getD s 0 0) 65535) table-is
+  due-is =
+      ap (λ n. traceAnswer table (getD s 0 0) n) (c .before .before .before .room .ensures)
+      ∙ ap (λ b. traceAnswer b (getD s 0 0) 65535) table-is
 
   answer-is : c .write-trace .result ≡ numbers due
   answer-is = written .answer ∙ ap numbers due-is
 
   in-buffer : First (c .write-trace .result .length) (c .write-trace .last .1 .1 .0) (due .bytes)
   in-buffer =
-      subst (λ b. First (c .write-trace .result .length) (c .write-trace .last .1 .1 .0) ((traceAnswer b (getD s 0 0) 65535) .bytes)) table-is
-      (first-bytes (λ n. (traceAnswer table (getD s 0 0) n) .bytes) (c .before .before .before .room .result) (c .before .before .before .room .ensures) (written .buffer) (ap (λ a. a .length) (written .answer)))
+      subst (λ b. First (c .write-trace .result .length) (c .write-trace .last .1 .1 .0) ((traceAnswer b (getD s 0 0) 65535) .bytes))
+      table-is
+      (first-bytes (λ n. (traceAnswer table (getD s 0 0) n) .bytes) (c .before .before .before .room .result)
+      (c .before .before .before .room .ensures) (written .buffer) (ap (λ a. a .length) (written .answer)))
 
   some-byte : 0 < length s
   some-byte = omega (arith, c .before .before .before .before .before .if1 .left)
@@ -52,7 +57,8 @@ module _ (c : tie.After-write-trace) where
   -- the reply is 0: the trace is accepted
   accepted : c .write-trace .result .reply ≡ 0 → (isAccepted (readTrace (due .bytes)) ≡ true) × (length (due .bytes) ≤ 65535)
   accepted z =
-      traced (drop 1 s) (getD s 0 0) 65535 (all-drop Byte 1 s (all-at Byte s (λ i h. c .before .before .before .before .before .before .before .shared-slice-known .given i .fits)))
+      traced (drop 1 s) (getD s 0 0) 65535 (all-drop Byte 1 s
+      (all-at Byte s (λ i h. c .before .before .before .before .before .before .before .shared-slice-known .given i .fits)))
       (sym (ap (λ a. a .reply) answer-is) ∙ z)
 
 show-refusal-requires : tie.Need-show-refusal-requires
@@ -62,7 +68,8 @@ same-length : tie.Need-same-length
 same-length c = search needs
 
 returns : tie.Need-returns
-returns c = shown (fitted-as (sym (printed-none _ (c .before .before .before .before .if1 .taken))) (c .before .before .show-refusal .ensures))
+returns c =
+    shown (fitted-as (sym (printed-none _ (c .before .before .before .before .if1 .taken))) (c .before .before .show-refusal .ensures))
 
 shared-slice-read-bound : tie.Need-shared-slice-read-bound
 shared-slice-read-bound c = search needs
@@ -99,7 +106,8 @@ returns-2 c =
     let w = c .before .before .before .before .before .before in
     let e : w .write-trace .result ≡ numbers (due w) = answer-is w in
     shown
-    (fitted-as (ap (λ a. refusalText (a .reply) (a .offset)) e ∙ sym (printed-refusal (s w) (some-byte w) (λ z. c .before .before .before .before .if2 .taken (ap (λ a. a .reply) e ∙ z))))
+    (fitted-as (ap (λ a. refusalText (a .reply) (a .offset)) e
+    ∙ sym (printed-refusal (s w) (some-byte w) (λ z. c .before .before .before .before .if2 .taken (ap (λ a. a .reply) e ∙ z))))
     (c .before .before .show-refusal2 .ensures))
 
 cast-n : tie.Need-cast-n
@@ -125,7 +133,9 @@ returns-3 : tie.Need-returns-3
 returns-3 c =
     let w = c .before .before .before .before .before .before .before .before in
     shown
-    (fitted-as (ap (λ t. slicedText (sliceAnswer t 65535)) (in-buffer w .those) ∙ sym (printed-slice (s w) (some-byte w) (sym (ap (λ a. a .reply) (answer-is w)) ∙ c .before .before .before .before .before .before .if2 .left)))
+    (fitted-as (ap (λ t. slicedText (sliceAnswer t 65535)) (in-buffer w .those)
+    ∙ sym (printed-slice (s w) (some-byte w) (sym (ap (λ a. a .reply) (answer-is w))
+    ∙ c .before .before .before .before .before .before .if2 .left)))
     (c .before .before .show-sliced .ensures))
 
 pub show-slice-spec : {M : Type 1} → statement M

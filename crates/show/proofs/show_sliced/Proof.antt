@@ -12,11 +12,15 @@ use Rattle.show.proofs.show_sliced.Statement.{statement}
 use Rattle.show.proofs.show_sliced.Tie as tie
 
 slice-kept : (c : tie.After-shared-slice-known) → Kept (c .before .args .trace .now)
-slice-kept c = kept (c .before .args .trace .now) (all-at Byte (c .before .args .trace .now) (λ i h. c .shared-slice-known .given i .fits)) (c .before .pre .0) (c .before .pre .1)
+slice-kept c =
+    kept (c .before .args .trace .now) (all-at Byte (c .before .args .trace .now) (λ i h. c .shared-slice-known .given i .fits))
+    (c .before .pre .0) (c .before .pre .1)
 
-in-buffer : (c : tie.After-slice-trace) → First (c .slice-trace .result .length) (c .slice-trace .last .1 .0) ((sliceAnswer (c .before .before .before .before .before .args .trace .now) 65535) .bytes)
+in-buffer : (c : tie.After-slice-trace) → First (c .slice-trace .result .length) (c .slice-trace .last .1 .0)
+    ((sliceAnswer (c .before .before .before .before .before .args .trace .now) 65535) .bytes)
 in-buffer c =
-    first-bytes (λ n. (sliceAnswer (c .before .before .before .before .before .args .trace .now) n) .bytes) (c .before .before .room .result) (c .before .before .room .ensures)
+    first-bytes (λ n. (sliceAnswer (c .before .before .before .before .before .args .trace .now) n) .bytes)
+    (c .before .before .room .result) (c .before .before .room .ensures)
     (c .slice-trace .ensures .buffer) (ap (λ a. a .length) (c .slice-trace .ensures .answer))
 
 room-requires : tie.Need-room-requires
@@ -38,13 +42,18 @@ slice-aggregate-show-trace : tie.Need-slice-aggregate-show-trace
 slice-aggregate-show-trace c = in-buffer (c .before .before .before) .many
 
 show-trace-requires : tie.Need-show-trace-requires
-show-trace-requires c κs = ap (λ s. isAccepted (readTrace s)) (in-buffer (c .before .before .before .before) .those) ∙ slice-kept (c .before .before .before .before .before .before .before .before) .accepted
+show-trace-requires c κs =
+    ap (λ s. isAccepted (readTrace s)) (in-buffer (c .before .before .before .before) .those)
+    ∙ slice-kept (c .before .before .before .before .before .before .before .before) .accepted
 
 same-length : tie.Need-same-length
 same-length c = search needs
 
 returns : tie.Need-returns
-returns c = fitted-as (ap (λ s. traceText (readTrace s)) (in-buffer (c .before .before .before .before .before .before .before) .those) ∙ slice-kept (c .before .before .before .before .before .before .before .before .before .before .before) .text) (c .before .before .show-trace .ensures)
+returns c =
+    fitted-as (ap (λ s. traceText (readTrace s)) (in-buffer (c .before .before .before .before .before .before .before) .those)
+    ∙ slice-kept (c .before .before .before .before .before .before .before .before .before .before .before) .text)
+    (c .before .before .show-trace .ensures)
 
 pub show-sliced-spec : {M : Type 1} → statement M
 show-sliced-spec =

@@ -27,7 +27,9 @@ same-length : tie.Need-same-length
 same-length c = search needs
 
 returns-2 : tie.Need-returns-2
-returns-2 c = written (c .before .before .before .before .before .before .put-slice .ensures .0) _ (c .before .before .before .before .if1 .left) (c .before .before .put-slice2 .ensures .0)
+returns-2 c =
+    written (c .before .before .before .before .before .before .put-slice .ensures .0) _ (c .before .before .before .before .if1 .left)
+    (c .before .before .put-slice2 .ensures .0)
 
 pub show-trace-spec : {M : Type 1} → statement M
 show-trace-spec =

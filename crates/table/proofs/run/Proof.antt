@@ -15,7 +15,8 @@ use Rattle.file.specs.FileLaws.{Header, copy-env}
 use Rattle.file.specs.ReadingLaws.{reply-refuses}
 use Rattle.table.specs.Table.{readTable}
 use Rattle.table.specs.Shown.{Ready}
-use Rattle.table.proofs.Answers.{offset-small, table-accepted, right-header, many, is-ready, table-refuses, bound-refused, valuation-refused, ran}
+use Rattle.table.proofs.Answers.{offset-small, table-accepted, right-header, many, is-ready, table-refuses, bound-refused}
+use Rattle.table.proofs.Answers.{valuation-refused, ran}
 use Rattle.table.proofs.run.Statement.{statement}
 use Rattle.table.proofs.run.Tie as tie
 
@@ -31,13 +32,20 @@ cast-refused c = search needs
 cast-refused-2 : tie.Need-cast-refused-2
 cast-refused-2 c =
     let s = c .before .before .before .before .before .before .before .args .table .now in
-    omega (arith, offset-small (c .before .before .before .read-table .ensures) (all-at Byte s (λ i h. c .before .before .before .before .before .before .shared-slice-known .given i .fits)))
+    omega (
+      arith,
+      offset-small (c .before .before .before .read-table .ensures)
+          (all-at Byte s (λ i h. c .before .before .before .before .before .before .shared-slice-known .given i .fits)),
+    )
 
 refused-requires : tie.Need-refused-requires
 refused-requires c κs = search needs
 
 returns : tie.Need-returns
-returns c = record { answer = c .refused .ensures ∙ table-refuses _ _ _ _ _ (reply-refuses (c .before .before .before .before .read-table .ensures) (c .before .before .if1 .taken)) }
+returns c = record {
+  answer = c .refused .ensures
+      ∙ table-refuses _ _ _ _ _ (reply-refuses (c .before .before .before .before .read-table .ensures) (c .before .before .if1 .taken));
+}
 
 refused-requires-2 : tie.Need-refused-requires-2
 refused-requires-2 c κs = search needs
@@ -75,13 +83,17 @@ refused-requires-3 : tie.Need-refused-requires-3
 refused-requires-3 c κs = search needs
 
 returns-3 : tie.Need-returns-3
-returns-3 c = record { answer = c .refused3 .ensures ∙ valuation-refused _ _ _ _ _ (accepted (c .before .before .before .before)) (c .before .before .before .if2 .left) (c .before .if3 .taken) }
+returns-3 c = record {
+  answer = c .refused3 .ensures ∙ valuation-refused _ _ _ _ _ (accepted (c .before .before .before .before))
+      (c .before .before .before .if2 .left) (c .before .if3 .taken);
+}
 
 slice-aggregate-copy-words : tie.Need-slice-aggregate-copy-words
 slice-aggregate-copy-words c = search needs
 
 copy-words-requires : tie.Need-copy-words-requires
-copy-words-requires c κs = omega (arith, c .before .if3 .left, head (c .before .before .before .before) .inputs, length-replicate {A = ℕ} 64 0)
+copy-words-requires c κs =
+    omega (arith, c .before .if3 .left, head (c .before .before .before .before) .inputs, length-replicate {A = ℕ} 64 0)
 
 slice-aggregate-run-from : tie.Need-slice-aggregate-run-from
 slice-aggregate-run-from c = search needs
@@ -92,18 +104,32 @@ slice-aggregate-run-from-2 c = search needs
 run-from-requires : tie.Need-run-from-requires
 run-from-requires c κs =
     let a = c .before .before .before .before .before .before .before .before in
-    let words = c .before .before .before .before .before .before .before .before .before .before .before .before .before .before .args .words .now in
-    (c .before .before .before .before .before .before .before .if2 .left, ready a, omega (arith, head a .inputs, ap length (c .before .before .before .copy-words .ensures), length-sets (replicate 64 0) 0 words, length-replicate {A = ℕ} 64 0))
+    let words = c .before .before .before .before .before .before .before .before .before .before .before .before .before .before .args
+    .words .now in (
+      c .before .before .before .before .before .before .before .if2 .left,
+      ready a,
+      omega (
+        arith,
+        head a .inputs,
+        ap length (c .before .before .before .copy-words .ensures),
+        length-sets (replicate 64 0) 0 words,
+        length-replicate {A = ℕ} 64 0,
+      ),
+    )
 
 returns-4 : tie.Need-returns-4
 returns-4 c =
     let a = c .before .before .before .before .before .before .before .before .before .before in
-    let words = c .before .before .before .before .before .before .before .before .before .before .before .before .before .before .before .before .args .words .now in
+    let words = c .before .before .before .before .before .before .before .before .before .before .before .before .before .before .before
+    .before .args .words .now in
     record {
       answer =
           c .before .run-from .ensures
-          ∙ ran _ _ _ _ _ (accepted a) (c .before .before .before .before .before .before .before .before .before .if2 .left) (c .before .before .before .before .before .before .before .if3 .left) _ (count-is a) (c .before .before .before .before .before .copy-words .last .1 .0)
-          (ap envOf (c .before .before .before .before .before .copy-words .ensures) ∙ copy-env 64 words (omega (arith, c .before .before .before .before .before .before .before .if3 .left, head a .inputs)));
+          ∙ ran _ _ _ _ _ (accepted a) (c .before .before .before .before .before .before .before .before .before .if2 .left)
+          (c .before .before .before .before .before .before .before .if3 .left) _ (count-is a)
+          (c .before .before .before .before .before .copy-words .last .1 .0)
+          (ap envOf (c .before .before .before .before .before .copy-words .ensures)
+          ∙ copy-env 64 words (omega (arith, c .before .before .before .before .before .before .before .if3 .left, head a .inputs)));
     }
 
 pub run-spec : {M : Type 1} → statement M

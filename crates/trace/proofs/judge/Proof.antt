@@ -30,13 +30,20 @@ cast-refused c = search needs
 cast-refused-2 : tie.Need-cast-refused-2
 cast-refused-2 c =
     let s = c .before .before .before .before .before .before .before .args .trace .now in
-    omega (arith, offset-small (c .before .before .before .read-trace .ensures) (all-at Byte s (λ i h. c .before .before .before .before .before .before .shared-slice-known .given i .fits)))
+    omega (
+      arith,
+      offset-small (c .before .before .before .read-trace .ensures)
+          (all-at Byte s (λ i h. c .before .before .before .before .before .before .shared-slice-known .given i .fits)),
+    )
 
 refused-requires : tie.Need-refused-requires
 refused-requires c κs = search needs
 
 returns : tie.Need-returns
-returns c = record { answer = c .refused .ensures ∙ trace-refuses _ _ _ _ (reply-refuses (c .before .before .before .before .read-trace .ensures) (c .before .before .if1 .taken)) }
+returns c = record {
+  answer = c .refused .ensures
+      ∙ trace-refuses _ _ _ _ (reply-refuses (c .before .before .before .before .read-trace .ensures) (c .before .before .if1 .taken));
+}
 
 -- the trace is accepted
 module _ (c : tie.Else1) where
@@ -59,7 +66,10 @@ refused-requires-2 : tie.Need-refused-requires-2
 refused-requires-2 c κs = search needs
 
 returns-2 : tie.Need-returns-2
-returns-2 c = record { answer = c .refused2 .ensures ∙ valuation-refused _ _ _ _ (accepted (c .before .before .before)) (c .before .if2 .taken) }
+returns-2 c = record {
+  answer = c .refused2 .ensures ∙ valuation-refused _ _ _ _ (accepted (c .before .before .before))
+      (c .before .if2 .taken);
+}
 
 slice-aggregate-copy-words : tie.Need-slice-aggregate-copy-words
 slice-aggregate-copy-words c = search needs
@@ -76,18 +86,25 @@ slice-aggregate-judge-from-2 c = search needs
 judge-from-requires : tie.Need-judge-from-requires
 judge-from-requires c κs =
     let a = c .before .before .before .before .before .before .before in
-    let words = c .before .before .before .before .before .before .before .before .before .before .before .before .before .args .words .now in
-    (is-ready (a .before .before .read-trace .ensures) (a .if1 .left) (omega (arith, length-replicate {A = ℕ} 4096 0)), ap length (c .before .before .before .copy-words .ensures) ∙ length-sets (replicate 4160 0) 0 words ∙ length-replicate {A = ℕ} 4160 0)
+    let words = c .before .before .before .before .before .before .before .before .before .before .before .before .before .args .words .now
+    in (
+      is-ready (a .before .before .read-trace .ensures) (a .if1 .left) (omega (arith, length-replicate {A = ℕ} 4096 0)),
+      ap length
+          (c .before .before .before .copy-words .ensures) ∙ length-sets (replicate 4160 0) 0 words ∙ length-replicate {A = ℕ} 4160 0,
+    )
 
 returns-3 : tie.Need-returns-3
 returns-3 c =
     let a = c .before .before .before .before .before .before .before .before .before in
-    let words = c .before .before .before .before .before .before .before .before .before .before .before .before .before .before .before .args .words .now in
+    let words = c .before .before .before .before .before .before .before .before .before .before .before .before .before .before .before
+    .args .words .now in
     record {
       answer =
           c .before .judge-from .ensures
-          ∙ judged _ _ _ _ (accepted a) (c .before .before .before .before .before .before .before .if2 .left) (c .before .before .before .before .before .copy-words .last .1 .0)
-          (ap envOf (c .before .before .before .before .before .copy-words .ensures) ∙ copy-env 4160 words (omega (arith, c .before .before .before .before .before .before .before .if2 .left, head a .inputs)));
+          ∙ judged _ _ _ _ (accepted a) (c .before .before .before .before .before .before .before .if2 .left)
+          (c .before .before .before .before .before .copy-words .last .1 .0)
+          (ap envOf (c .before .before .before .before .before .copy-words .ensures)
+          ∙ copy-env 4160 words (omega (arith, c .before .before .before .before .before .before .before .if2 .left, head a .inputs)));
     }
 
 pub judge-spec : {M : Type 1} → statement M

@@ -57,13 +57,19 @@ cast-refused c = search needs
 cast-refused-2 : tie.Need-cast-refused-2
 cast-refused-2 c =
     let s = c .before .before .before .before .before .before .before .args .table .now in
-    omega (arith, offset-small (c .before .before .before .read-table .ensures) (all-at Byte s (λ i h. c .before .before .before .before .before .before .shared-slice-known .given i .fits)))
+    omega (
+      arith,
+      offset-small (c .before .before .before .read-table .ensures)
+          (all-at Byte s (λ i h. c .before .before .before .before .before .before .shared-slice-known .given i .fits)),
+    )
 
 refused-requires : tie.Need-refused-requires
 refused-requires c κs = search needs
 
 returns : tie.Need-returns
-returns c = table-refuses _ _ _ _ _ (reply-refuses (c .before .before .before .before .read-table .ensures) (c .before .before .if1 .taken)) (c .refused .ensures)
+returns c =
+    table-refuses _ _ _ _ _ (reply-refuses (c .before .before .before .before .read-table .ensures) (c .before .before .if1 .taken))
+    (c .refused .ensures)
 
 refused-requires-2 : tie.Need-refused-requires-2
 refused-requires-2 c κs = search needs
@@ -81,7 +87,8 @@ mul-count : tie.Need-mul-count
 mul-count c = omega (arith, statements (c .before) (c .before .before .before .before .before .before .before .args .bound) (c .if2 .left))
 
 add-count-3 : tie.Need-add-count-3
-add-count-3 c = omega (arith, statements (c .before) (c .before .before .before .before .before .before .before .args .bound) (c .if2 .left))
+add-count-3 c =
+    omega (arith, statements (c .before) (c .before .before .before .before .before .before .before .args .bound) (c .if2 .left))
 
 refused-requires-3 : tie.Need-refused-requires-3
 refused-requires-3 c κs = search needs
@@ -103,7 +110,9 @@ refused-requires-4 c κs = search needs
 returns-4 : tie.Need-returns-4
 returns-4 c =
     let a = c .before .before .before .before .before .before in
-    size-refuses _ _ _ _ _ (accepted a) (c .before .before .before .before .before .if2 .left) _ (count-is a) (c .before .before .before .before .if3 .left) _ (c .before .before .trace-size .ensures) (c .before .if4 .taken) (c .refused4 .ensures)
+    size-refuses _ _ _ _ _ (accepted a) (c .before .before .before .before .before .if2 .left) _ (count-is a)
+    (c .before .before .before .before .if3 .left) _ (c .before .before .trace-size .ensures) (c .before .if4 .taken)
+    (c .refused4 .ensures)
 
 refused-requires-5 : tie.Need-refused-requires-5
 refused-requires-5 c κs = search needs
@@ -111,13 +120,22 @@ refused-requires-5 c κs = search needs
 returns-5 : tie.Need-returns-5
 returns-5 c =
     let a = c .before .before .before .before .before .before .before in
-    room-refuses _ _ _ _ _ (accepted a) (c .before .before .before .before .before .before .if2 .left) _ (count-is a) (c .before .before .before .before .before .if3 .left) _ (c .before .before .before .trace-size .ensures) (c .before .before .if4 .left) (c .before .if5 .taken) (c .refused5 .ensures)
+    room-refuses _ _ _ _ _ (accepted a) (c .before .before .before .before .before .before .if2 .left) _ (count-is a)
+    (c .before .before .before .before .before .if3 .left) _ (c .before .before .before .trace-size .ensures)
+    (c .before .before .if4 .left) (c .before .if5 .taken) (c .refused5 .ensures)
 
 slice-aggregate-write-all : tie.Need-slice-aggregate-write-all
 slice-aggregate-write-all c = search needs
 
 write-all-requires : tie.Need-write-all-requires
-write-all-requires c κs = (ready (c .before .before .before .before .before .before .before .before), c .before .before .before .before .before .before .before .if2 .left, refl, c .before .before .before .before .before .before .if3 .left, c .before .before .before .before .trace-size .ensures, c .before .before .if5 .left)
+write-all-requires c κs = (
+  ready (c .before .before .before .before .before .before .before .before),
+  c .before .before .before .before .before .before .before .if2 .left,
+  refl,
+  c .before .before .before .before .before .before .if3 .left,
+  c .before .before .before .before .trace-size .ensures,
+  c .before .before .if5 .left,
+)
 
 cast-t26 : tie.Need-cast-t26
 cast-t26 c = omega (arith, c .before .before .before .before .before .before .if4 .left)
@@ -134,7 +152,8 @@ returns-6 c =
     let if4 = c .before .before .before .before .before .before .if4 in
     let if5 = c .before .before .before .before .before .if5 in
     let write-all = c .before .before .write-all in
-    trace-written _ _ _ _ _ (accepted a) (if2 .left) _ (count-is a) (if3 .left) _ (trace-size .ensures) (if4 .left) (if5 .left) (write-all .ensures)
+    trace-written _ _ _ _ _ (accepted a) (if2 .left) _ (count-is a) (if3 .left) _ (trace-size .ensures) (if4 .left) (if5 .left)
+    (write-all .ensures)
 
 pub write-trace-spec : {M : Type 1} → statement M
 write-trace-spec =

@@ -22,7 +22,10 @@ same-length : tie.Need-same-length
 same-length c = search needs
 
 returns : tie.Need-returns
-returns c = c .before .before .before .before .before .before .before .before .before .before .before .before .before .before .put-byte .ensures then c .before .before .before .before .before .before .before .before .before .before .put-two .ensures then c .before .before .before .before .before .before .put-byte2 .ensures then c .before .before .put-two2 .ensures
+returns c =
+    c .before .before .before .before .before .before .before .before .before .before .before .before .before .before .put-byte .ensures
+    then c .before .before .before .before .before .before .before .before .before .before .put-two .ensures then
+    c .before .before .before .before .before .before .put-byte2 .ensures then c .before .before .put-two2 .ensures
 
 pub put-header-spec : {M : Type 1} → statement M
 put-header-spec =

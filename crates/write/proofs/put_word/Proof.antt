@@ -49,7 +49,8 @@ same-length c = search needs
 
 returns : tie.Need-returns
 unfolding splice
-returns c = let at = c .args .at in let q : at + 1 ≡ suc at = omega arith in let r : at + 2 ≡ suc (suc at) = omega arith in let s : at + 3 ≡ suc (suc (suc at)) = omega arith in record { buffer = rw (div-one, q, r, s) refl; next = refl }
+returns c = let at = c .args .at in let q : at + 1 ≡ suc at = omega arith in let r : at + 2 ≡ suc (suc at) = omega arith in
+    let s : at + 3 ≡ suc (suc (suc at)) = omega arith in record { buffer = rw (div-one, q, r, s) refl; next = refl }
 
 pub put-word-spec : {M : Type 1} → statement M
 put-word-spec =

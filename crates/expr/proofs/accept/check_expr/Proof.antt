@@ -1,4 +1,5 @@
--- The invariant: the check of the rest, from the depth that is reached, answers what the check of the whole does. Each turn leaves fewer bytes.
+-- The invariant: the check of the rest, from the depth that is reached, answers what the check of the whole does. Each turn leaves fewer
+-- bytes.
 use Prim.Native.Nat.{ℕ, _-_, _≤_}
 use native.Mathlib.Omega.{arith}
 use mathlib.Core.Path.{_≡_, refl, sym, ap, _∙_}
@@ -19,7 +20,8 @@ abbrev Inv-loop : tie.InvT-loop
 Inv-loop e file inputs assigned at₀ depth₀ at depth =
     (at ≤ length e)
     × (depth ≤ depthLimit file)
-    × (checked (length e) (parseFrom file (readable inputs assigned) depth 0 (drop at e)) ≡ checked (length e) (parse file (readable inputs assigned) e))
+    × (checked (length e) (parseFrom file (readable inputs assigned) depth 0 (drop at e)) ≡ checked (length e)
+    (parse file (readable inputs assigned) e))
 
 abbrev μ-loop : tie.MeasureT-loop
 μ-loop e file inputs assigned at₀ depth₀ at depth = length e - at
@@ -39,14 +41,21 @@ enum-told c = search needs
 returns : tie.Need-returns Inv-loop μ-loop
 returns c =
     let s = c .before .before .before .before .before .before .before in
-    sym (checked-stop (s .args .file) (may s) (c .before .before .before .before .loop .depth) (s .args .e .now) (c .before .before .before .before .loop .at) (c .before .before .before .loop-test .taken) (sym (c .before .before .turn .ensures) ∙ c .enum-told .given .1))
+    sym (checked-stop (s .args .file) (may s) (c .before .before .before .before .loop .depth) (s .args .e .now)
+    (c .before .before .before .before .loop .at) (c .before .before .before .loop-test .taken) (sym (c .before .before .turn .ensures)
+    ∙ c .enum-told .given .1))
     ∙ c .before .before .before .before .loop .inv .2
 
 enum-known-t : tie.Need-enum-known-t Inv-loop μ-loop
 enum-known-t c = search needs
 
-went : (c : tie.After-known-told Inv-loop μ-loop) → Went (c .before .before .before .before .before .before .before .before .args .file) (may (c .before .before .before .before .before .before .before .before)) (c .before .before .before .before .before .loop .depth) (c .before .before .before .before .before .before .before .before .args .e .now) (c .before .before .before .before .before .loop .at) (c .before .t .given .0 .0) (c .before .t .given .0 .1 .0)
-went c = goes-on _ _ _ _ _ (c .before .before .before .before .loop-test .taken) _ _ (sym (c .before .before .before .turn .ensures) ∙ c .before .t .given .1)
+went : (c : tie.After-known-told Inv-loop μ-loop) → Went (c .before .before .before .before .before .before .before .before .args .file)
+    (may (c .before .before .before .before .before .before .before .before)) (c .before .before .before .before .before .loop .depth)
+    (c .before .before .before .before .before .before .before .before .args .e .now) (c .before .before .before .before .before .loop .at)
+    (c .before .t .given .0 .0) (c .before .t .given .0 .1 .0)
+went c =
+    goes-on _ _ _ _ _ (c .before .before .before .before .loop-test .taken) _ _ (sym (c .before .before .before .turn .ensures)
+    ∙ c .before .t .given .1)
 
 add-at : tie.Need-add-at Inv-loop μ-loop
 add-at c = omega (arith, went c .inside)
@@ -56,20 +65,26 @@ loop-less c = omega (arith, went c .inside, went c .size)
 
 loop-again : tie.Need-loop-again Inv-loop μ-loop
 loop-again c =
-    let w = went c in
-    (w .inside, omega (arith, w .deep, fits-is _ _ _ _ (w .fit) .room), checked-on _ _ _ _ _ (c .before .before .before .before .loop-test .taken) _ _ w ∙ c .before .before .before .before .before .loop .inv .2)
+    let w = went c in (
+      w .inside,
+      omega (arith, w .deep, fits-is _ _ _ _ (w .fit) .room),
+      checked-on _ _ _ _ _
+          (c .before .before .before .before .loop-test .taken) _ _ w ∙ c .before .before .before .before .before .loop .inv .2,
+    )
 
 returns-2 : tie.Need-returns-2 Inv-loop μ-loop
 returns-2 c =
     let s = c .before .before .before .before .before in
-    sym (checked-end (s .args .file) (may s) (c .before .before .loop .depth) (s .args .e .now) (c .before .before .loop .at) (c .before .loop-test .left) ∙ rw (eq-eqb _ _ (c .if1 .taken)))
+    sym (checked-end (s .args .file) (may s) (c .before .before .loop .depth) (s .args .e .now) (c .before .before .loop .at)
+    (c .before .loop-test .left) ∙ rw (eq-eqb _ _ (c .if1 .taken)))
     ∙ c .before .before .loop .inv .2
 
 returns-3 : tie.Need-returns-3 Inv-loop μ-loop
 returns-3 c =
     let s = c .before .before .before .before .before in
     ap {B = Checked} Broken (let q : c .before .before .loop .at ≡ length (s .args .e .now) = omega arith in q)
-    ∙ sym (checked-end (s .args .file) (may s) (c .before .before .loop .depth) (s .args .e .now) (c .before .before .loop .at) (c .before .loop-test .left) ∙ rw (ne-eqb _ _ (c .if1 .left)))
+    ∙ sym (checked-end (s .args .file) (may s) (c .before .before .loop .depth) (s .args .e .now) (c .before .before .loop .at)
+    (c .before .loop-test .left) ∙ rw (ne-eqb _ _ (c .if1 .left)))
     ∙ c .before .before .loop .inv .2
 
 pub check-expr-spec : {M : Type 1} → statement M

@@ -16,7 +16,8 @@ returns-2 : tie.Need-returns-2
 returns-2 c = rw (le-ltb _ _ (c .before .before .if1 .left))
 
 returns-3 : tie.Need-returns-3
-returns-3 c = rw (le-ltb _ _ (c .before .if1 .left)) (sym (List·getD-eq-default (c .before .before .args .assigned .now) false (c .if2 .left)))
+returns-3 c =
+    rw (le-ltb _ _ (c .before .if1 .left)) (sym (List·getD-eq-default (c .before .before .args .assigned .now) false (c .if2 .left)))
 
 pub may-read-spec : {M : Type 1} → statement M
 may-read-spec = tie.close (tie.spec returns shared-slice-read-result returns-2 returns-3)

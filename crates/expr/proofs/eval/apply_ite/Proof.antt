@@ -40,7 +40,10 @@ put-requires : tie.Need-put-requires
 put-requires c κs = search needs
 
 returns : tie.Need-returns
-returns c = ite-steps _ _ _ _ _ (c .before .before .before .before .before .before .pre .2) (c .before .before .before .before .before .before .pre .1) (c .before .before .before .before .before .before .pre .0) (c .put .ensures .0) (c .put .ensures .1) (c .before .ite .ensures)
+returns c =
+    ite-steps _ _ _ _ _ (c .before .before .before .before .before .before .pre .2)
+    (c .before .before .before .before .before .before .pre .1) (c .before .before .before .before .before .before .pre .0)
+    (c .put .ensures .0) (c .put .ensures .1) (c .before .ite .ensures)
 
 pub apply-ite-spec : {M : Type 1} → statement M
 apply-ite-spec =

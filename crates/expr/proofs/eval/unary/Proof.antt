@@ -24,7 +24,8 @@ returns-2 c = rw (c .before .match .keys2) (c .neg .ensures)
 
 returns-3 : tie.Need-returns-3
 unfolding operator
-returns-3 c = let e : c .before .before .args .code ≡ 0x12 = omega (arith, c .before .match .rest .0 .1, c .before .match .rest .1) in rw e (c .zero .ensures)
+returns-3 c = let e : c .before .before .args .code ≡ 0x12 = omega (arith, c .before .match .rest .0 .1, c .before .match .rest .1) in
+    rw e (c .zero .ensures)
 
 pub unary-spec : {M : Type 1} → statement M
 unary-spec =

@@ -26,7 +26,8 @@ add-result : tie.Need-add-result
 add-result c = search needs
 
 returns : tie.Need-returns
-returns c = let e = two-at (c .before .before .before .before .before .args .s .now) (c .before .before .before .before .before .args .at) (c .before .before .before .before .before .pre) in (omega (arith, e), omega arith)
+returns c = let e = two-at (c .before .before .before .before .before .args .s .now) (c .before .before .before .before .before .args .at)
+    (c .before .before .before .before .before .pre) in (omega (arith, e), omega arith)
 
 pub two-at-spec : {M : Type 1} → statement M
 two-at-spec =

@@ -23,7 +23,8 @@ cast-result : tie.Need-cast-result
 cast-result c = search needs
 
 returns : tie.Need-returns
-returns c = omega (arith, four-at (c .before .before .before .args .s .now) (c .before .before .before .args .at) (c .before .before .before .pre))
+returns c =
+    omega (arith, four-at (c .before .before .before .args .s .now) (c .before .before .before .args .at) (c .before .before .before .pre))
 
 pub word-at-spec : {M : Type 1} → statement M
 word-at-spec =

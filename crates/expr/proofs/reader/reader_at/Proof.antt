@@ -1,6 +1,6 @@
--- `expr::reader::reader_at` meets its contract: a walk of its MIR, by hand. A `Reader` is made of the slice and the number passed, in the result's local.
--- A `&[u8]` is Copy, so what it owns is had twice: once for the slice at exit, and once inside the result.
--- Assumes nothing.
+-- `expr::reader::reader_at` meets its contract: a walk of its MIR, by hand. A `Reader` is made of the slice and the number passed, in the
+-- result's local. A `&[u8]` is Copy, so what it owns is had twice: once for the slice at exit, and once inside the result. Assumes
+-- nothing.
 use mathlib.Core.Path.{refl}
 use Prim.Native.Nat.{ℕ, _<_, _^_}
 use mathlib.Core.List.{List, [], _∷_}
@@ -17,7 +17,8 @@ use contract.Monad.{Fun}
 use contract.Running.{givenOf, tables, tablesOf}
 use types.Kit.{Given, ‵, raw, _⊛_, _$_, _∵_, !, qed, by, move, fsplit, fjoin, suffices, frame}
 use types.Part.{agg}
-use types.Run.{look, init, forget, stop, from, load, and-then, no-more, assigns, returns, enter, alloc1, alloc0, params1, pass1, pass0, free1, free0}
+use types.Run.{look, init, forget, stop, from, load, and-then, no-more, assigns, returns, enter, alloc1, alloc0, params1, pass1, pass0}
+use types.Run.{free1, free0}
 use sound.WpLaws.{WpFn-mono}
 use denote.RattleType.{owns}
 use denote.Laws.{Is}
@@ -41,7 +42,8 @@ use Rattle.expr.proofs.reader.reader_at.Code as code
 abbrev stayed : Stays (reader-at.ended .signature .params) (reader-at.ended .kept)
 stayed = (stay-none-slice (0 ∷ []) tt (plain (λ _. u8)) yes, (stay-none (λ _. usize) yes, tt))
 
-module _ {M : Type 1} (𝓤 : URA M) (H : Heap 𝓤) (A : Atoms 𝓤) (W : Given 𝓤 H A) (mem : Memory → SProp 𝓤) (run : Routine → Fun 𝓤) (κ : Lft) (q : Share) (s : RefT (List ℕ)) (n : ℕ) (fits : n < 2 ^ 64) where
+module _ {M : Type 1} (𝓤 : URA M) (H : Heap 𝓤) (A : Atoms 𝓤) (W : Given 𝓤 H A) (mem : Memory → SProp 𝓤) (run : Routine → Fun 𝓤) (κ : Lft)
+    (q : Share) (s : RefT (List ℕ)) (n : ℕ) (fits : n < 2 ^ 64) where
   abbrev α : NamedLft
   α = 'a (κ, tt)
 
@@ -54,28 +56,52 @@ module _ {M : Type 1} (𝓤 : URA M) (H : Heap 𝓤) (A : Atoms 𝓤) (W : Given
   exits : ent 𝓤 (onEntry 𝓤 H A reader-at.signature (κ, tt) (q, tt) (s, (n, tt)) at) (Post (readerVal (over s n)))
   exits =
       qed W ((‵ (flft κ q) ⊛ ‵ ftrue) ∷ ‵ (owns (ShrSlice (named 0) κ u8 ∷ usize ∷ []) (s, (n, tt)) at) ∷ []) ∵
-      suffices ! _ (ends-at 𝓤 H A reader-at.ended stayed (reader-at.clauses 𝓤 H A mem run) W (((κ, tt), (q, tt), tt, (s, (n, tt)), at), tt) (readerVal (over s n)) (over s n) (tt, (tt, tt)) (tt, (tt, tt))) $ says ! (refl, refl) $
+      suffices ! _ (ends-at 𝓤 H A reader-at.ended stayed (reader-at.clauses 𝓤 H A mem run) W (((κ, tt), (q, tt), tt, (s, (n, tt)), at), tt)
+      (readerVal (over s n)) (over s n) (tt, (tt, tt)) (tt, (tt, tt))) $ says ! (refl, refl) $
       frame ! $ fsplit ! $ slice-twice ! u8 α s (slice-val s ∷ []) $ move ! (0 ∷ 2 ∷ []) $ fjoin ! $ frame ! $
       -- [what the bytes own]
       by ! (reader-over 𝓤 H A W α s n fits)
 
   module _ (C : Calls 𝓤 H) (Λ : Loops 𝓤 H) where
-    walk : Is (ShrSlice (named 0) κ u8) s (slice-val s ∷ []) → ent 𝓤 (onEntry 𝓤 H A reader-at.signature (κ, tt) (q, tt) (s, (n, tt)) at) (WpFn 𝓤 H C Λ code.function (slice-val s ∷ vint w64 n ∷ []) Post)
+    walk : Is (ShrSlice (named 0) κ u8) s (slice-val s ∷ []) → ent 𝓤 (onEntry 𝓤 H A reader-at.signature (κ, tt) (q, tt) (s, (n, tt)) at)
+        (WpFn 𝓤 H C Λ code.function (slice-val s ∷ vint w64 n ∷ []) Post)
     walk p =
-        qed W (raw (onEntry 𝓤 H A reader-at.signature (κ, tt) (q, tt) (s, (n, tt)) at) ∷ []) ∵ enter ! C Λ code.function (slice-val s ∷ vint w64 n ∷ []) _ $
-        alloc1 ! (λ l₀. alloc1 ! (λ l₁. alloc1 ! (λ l₂. alloc0 ! $ params1 ! $ pass1 ! (init ! 2 refl (shr-slice-lawful 𝓤 H A W (named 0) κ u8 .typed s (slice-val s ∷ []) p .0)) $ pass1 ! (init ! 0 refl (tt, record { fits = fits })) $ pass0 ! $
+        qed W (raw (onEntry 𝓤 H A reader-at.signature (κ, tt) (q, tt) (s, (n, tt)) at) ∷ []) ∵ enter ! C Λ code.function
+        (slice-val s ∷ vint w64 n ∷ []) _ $
+        alloc1 ! (λ l₀. alloc1 ! (λ l₁. alloc1 !
+        (λ l₂. alloc0 ! $ params1 ! $ pass1 !
+        (init ! 2 refl (shr-slice-lawful 𝓤 H A W (named 0) κ u8 .typed s (slice-val s ∷ []) p .0)) $ pass1 !
+        (init ! 0 refl (tt, record { fits = fits })) $ pass0 ! $
         -- [_2; …; _1; …; room for _0; …; what is owned at entry]
-        assigns ! (agg ! (and-then ! (load ! (from ! (stop !)) (look ! 2 refl)) (and-then ! (load ! (from ! (stop !)) (look ! 0 refl)) (no-more !)))) (from ! (stop !)) (init ! 4 refl (tt, (shr-slice-lawful 𝓤 H A W (named 0) κ u8 .typed s (slice-val s ∷ []) p .0 .1, (record { fits = fits }, tt)))) $
-        returns ! (look ! 4 refl) $ forget ! 0 refl $ forget ! 2 refl $ forget ! 4 refl $ move ! (4 ∷ 5 ∷ []) $ free1 ! $ move ! (2 ∷ 3 ∷ []) $ free1 ! $ free1 ! $ free0 ! $ by ! exits)))
+        assigns ! (agg ! (and-then ! (load ! (from ! (stop !)) (look ! 2 refl))
+        (and-then ! (load ! (from ! (stop !)) (look ! 0 refl)) (no-more !)))) (from ! (stop !))
+        (init ! 4 refl (
+          tt,
+          (
+            shr-slice-lawful 𝓤 H A W (named 0) κ u8 .typed s (slice-val s ∷ []) p .0 .1,
+            (record { fits = fits }, tt),
+          ),
+        )) $
+        returns ! (look ! 4 refl) $ forget ! 0 refl $ forget ! 2 refl $ forget ! 4 refl $ move ! (4 ∷ 5 ∷ []) $ free1 ! $ move !
+        (2 ∷ 3 ∷ []) $ free1 ! $ free1 ! $ free0 ! $ by ! exits)))
 
 module _ {M : Type 1} (𝓤 : URA M) (H : Heap 𝓤) (A : Atoms 𝓤) (W : Given 𝓤 H A) (mem : Memory → SProp 𝓤) (run : Routine → Fun 𝓤) where
-  reader-at-walks : (C : Calls 𝓤 H) (Λ : Loops 𝓤 H) → Walks 𝓤 H A reader-at.ended stayed (WpFn 𝓤 H C Λ code.function) (reader-at.clauses 𝓤 H A mem run)
-  reader-at-walks C Λ = walked 𝓤 H A reader-at.ended stayed (reader-at.clauses 𝓤 H A mem run) (WpFn 𝓤 H C Λ code.function) (λ κs. (slice-vals, (uint-vals w64, tt))) (λ κs. (shr-slice-tells (named 0) (κs .0) u8, (uint-tells w64, tt)))
-      (λ κs qs bounds a g are. via 𝓤 _ (fst∗ 𝓤 _ (emp 𝓤)) (walk 𝓤 H A W mem run (κs .0) (qs .0) (a .0) (a .1 .0) (are .1 .0 .1) C Λ (are .0)))
+  reader-at-walks : (C : Calls 𝓤 H) (Λ : Loops 𝓤 H) → Walks 𝓤 H A reader-at.ended stayed (WpFn 𝓤 H C Λ code.function)
+      (reader-at.clauses 𝓤 H A mem run)
+  reader-at-walks C Λ =
+      walked 𝓤 H A reader-at.ended stayed (reader-at.clauses 𝓤 H A mem run) (WpFn 𝓤 H C Λ code.function)
+      (λ κs. (slice-vals, (uint-vals w64, tt))) (λ κs. (shr-slice-tells (named 0) (κs .0) u8, (uint-tells w64, tt)))
+      (λ κs qs bounds a g are. via 𝓤 _ (fst∗ 𝓤 _ (emp 𝓤)) (walk 𝓤 H A W mem run (κs .0) (qs .0) (a .0) (a .1 .0) (are .1 .0 .1) C Λ
+      (are .0)))
 
-reader-at-meets : {M : Type 1} (𝓤 : URA M) (H : Heap 𝓤) (A : Atoms 𝓤) → Given 𝓤 H A → (mem : Memory → SProp 𝓤) (run : Routine → Fun 𝓤) (𝓣 : Tables 𝓤 H)
+reader-at-meets : {M : Type 1} (𝓤 : URA M) (H : Heap 𝓤) (A : Atoms 𝓤) → Given 𝓤 H A
+    → (mem : Memory → SProp 𝓤) (run : Routine → Fun 𝓤) (𝓣 : Tables 𝓤 H)
     → Meets 𝓤 H A reader-at.signature (WpFn 𝓤 H (𝓣 .C) (𝓣 .Λ) code.function) (reader-at.spec 𝓤 H A mem run)
-reader-at-meets 𝓤 H A W mem run 𝓣 = walk-meets 𝓤 H A reader-at.ended stayed W (goes-none-slice 𝓤 H A W 1 (0 ∷ []) tt (plain (λ _. u8)) yes, (goes-none 𝓤 H A W 1 (λ _. usize) yes (λ κs x f. refl), tt)) (reader-at.clauses 𝓤 H A mem run) (WpFn 𝓤 H (𝓣 .C) (𝓣 .Λ) code.function) (WpFn-mono 𝓤 H (W .laws) 𝓣 code.function) (reader-at-walks 𝓤 H A W mem run (𝓣 .C) (𝓣 .Λ))
+reader-at-meets 𝓤 H A W mem run 𝓣 =
+    walk-meets 𝓤 H A reader-at.ended stayed W
+    (goes-none-slice 𝓤 H A W 1 (0 ∷ []) tt (plain (λ _. u8)) yes, (goes-none 𝓤 H A W 1 (λ _. usize) yes (λ κs x f. refl), tt))
+    (reader-at.clauses 𝓤 H A mem run) (WpFn 𝓤 H (𝓣 .C) (𝓣 .Λ) code.function) (WpFn-mono 𝓤 H (W .laws) 𝓣 code.function)
+    (reader-at-walks 𝓤 H A W mem run (𝓣 .C) (𝓣 .Λ))
 
 pub reader-at-spec : {M : Type 1} → stated.statement M
 unfolding code.routine tablesOf

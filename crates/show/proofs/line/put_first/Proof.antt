@@ -29,7 +29,8 @@ cast-put-decimal-2 c = search needs
 
 put-decimal-requires-2 : tie.Need-put-decimal-requires-2
 put-decimal-requires-2 c κs =
-    let start = c .before .before .before .before .before .before .before .before .before .before .before .before .before .before .before .before in
+    let start = c .before .before .before .before .before .before .before .before .before .before .before .before .before .before .before
+    .before in
     let put-decimal = c .before .before .before .before .before .before .before .before .put-decimal in
     search (needs, two-digits (start .args .inputs) (omega (arith, start .pre .0)), put-decimal .ensures .0 .next)
 
@@ -38,8 +39,10 @@ slice-aggregate-fit-part-3 c = search needs
 
 fit-part-requires-3 : tie.Need-fit-part-requires-3
 fit-part-requires-3 c κs =
-    let start = c .before .before .before .before .before .before .before .before .before .before .before .before .before .before .before .before .before .before .before .before .before in
-    let put-decimal = c .before .before .before .before .before .before .before .before .before .before .before .before .before .put-decimal in
+    let start = c .before .before .before .before .before .before .before .before .before .before .before .before .before .before .before
+    .before .before .before .before .before .before in
+    let put-decimal = c .before .before .before .before .before .before .before .before .before .before .before .before .before
+    .put-decimal in
     search (needs, two-digits (start .args .inputs) (omega (arith, start .pre .0)), put-decimal .ensures .0 .next)
 
 same-length : tie.Need-same-length
@@ -47,13 +50,26 @@ same-length c = search needs
 
 returns : tie.Need-returns
 returns c =
-    let start = c .before .before .before .before .before .before .before .before .before .before .before .before .before .before .before .before .before .before .before .before .before .before .before .before in
-    let fit-part = c .before .before .before .before .before .before .before .before .before .before .before .before .before .before .before .before .before .before .before .before .fit-part in
-    let put-decimal = c .before .before .before .before .before .before .before .before .before .before .before .before .before .before .before .before .put-decimal in
+    let start = c .before .before .before .before .before .before .before .before .before .before .before .before .before .before .before
+    .before .before .before .before .before .before .before .before .before in
+    let fit-part = c .before .before .before .before .before .before .before .before .before .before .before .before .before .before
+    .before .before .before .before .before .before .fit-part in
+    let put-decimal = c .before .before .before .before .before .before .before .before .before .before .before .before .before .before
+    .before .before .put-decimal in
     let fit-part2 = c .before .before .before .before .before .before .before .before .before .before .before .fit-part2 in
     let put-decimal2 = c .before .before .before .before .before .before .before .put-decimal2 in
-    let fit-part3 = c .before .before .fit-part3 in
-    ((((fit-part .ensures then put-decimal .ensures .0) then fit-part2 .ensures) then put-decimal2 .ensures .0) then fit-part3 .ensures, omega (arith, two-digits (start .args .inputs) (omega (arith, start .pre .0)), fit-part .ensures .next, put-decimal .ensures .0 .next, fit-part2 .ensures .next, put-decimal2 .ensures .1, fit-part3 .ensures .next))
+    let fit-part3 = c .before .before .fit-part3 in (
+      (((fit-part .ensures then put-decimal .ensures .0) then fit-part2 .ensures) then put-decimal2 .ensures .0) then fit-part3 .ensures,
+      omega (
+        arith,
+        two-digits (start .args .inputs) (omega (arith, start .pre .0)),
+        fit-part .ensures .next,
+        put-decimal .ensures .0 .next,
+        fit-part2 .ensures .next,
+        put-decimal2 .ensures .1,
+        fit-part3 .ensures .next,
+      ),
+    )
 
 pub put-first-spec : {M : Type 1} → statement M
 put-first-spec =

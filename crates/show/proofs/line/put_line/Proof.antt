@@ -15,14 +15,23 @@ use Rattle.show.proofs.line.put_line.Tie as tie
 here : (c : tie.Start) → Held 4160 loose (c .args .trace .now) (c .args .at)
 here c = held-at 4160 loose (c .args .trace .now) (c .args .at) (c .pre .1)
 
-some : (c : tie.After-expr-at) → 5 ≤ 2 + numberOf 2 (drop (c .before .before .before .args .at) (c .before .before .before .args .trace .now))
+some : (c : tie.After-expr-at) → 5 ≤ 2 + numberOf 2
+    (drop (c .before .before .before .args .at) (c .before .before .before .args .trace .now))
 some c = five-bytes (here (c .before .before .before)) (c .expr-at .ensures)
 
-assigns : (c : tie.Then1) → 7 + length (c .before .before .before .before .before .before .before .expr-at .result .now) ≡ 2 + numberOf 2 (drop (c .before .before .before .before .before .before .before .before .before .before .args .at) (c .before .before .before .before .before .before .before .before .before .before .args .trace .now))
-assigns c = assign-length (here (c .before .before .before .before .before .before .before .before .before .before)) (c .before .before .before .before .before .before .before .expr-at .ensures) (c .if1 .taken)
+assigns : (c : tie.Then1) → 7 + length (c .before .before .before .before .before .before .before .expr-at .result .now) ≡ 2 + numberOf 2
+    (drop (c .before .before .before .before .before .before .before .before .before .before .args .at)
+    (c .before .before .before .before .before .before .before .before .before .before .args .trace .now))
+assigns c =
+    assign-length (here (c .before .before .before .before .before .before .before .before .before .before))
+    (c .before .before .before .before .before .before .before .expr-at .ensures) (c .if1 .taken)
 
-tests : (c : tie.Else1) → 5 + length (c .before .before .before .before .before .before .before .expr-at .result .now) ≡ 2 + numberOf 2 (drop (c .before .before .before .before .before .before .before .before .before .before .args .at) (c .before .before .before .before .before .before .before .before .before .before .args .trace .now))
-tests c = test-length (here (c .before .before .before .before .before .before .before .before .before .before)) (c .before .before .before .before .before .before .before .expr-at .ensures) (c .if1 .left)
+tests : (c : tie.Else1) → 5 + length (c .before .before .before .before .before .before .before .expr-at .result .now) ≡ 2 + numberOf 2
+    (drop (c .before .before .before .before .before .before .before .before .before .before .args .at)
+    (c .before .before .before .before .before .before .before .before .before .before .args .trace .now))
+tests c =
+    test-length (here (c .before .before .before .before .before .before .before .before .before .before))
+    (c .before .before .before .before .before .before .before .expr-at .ensures) (c .if1 .left)
 
 expr-at-requires : tie.Need-expr-at-requires
 expr-at-requires c κs = let h = here (c .before .before) in (h .whole, h .starts)
@@ -49,7 +58,8 @@ add-two-at-2 : tie.Need-add-two-at-2
 add-two-at-2 c = search needs
 
 two-at-requires-2 : tie.Need-two-at-requires-2
-two-at-requires-2 c κs = omega (arith, here (c .before .before .before .before .before .before .before .before .before .before) .whole, assigns c)
+two-at-requires-2 c κs =
+    omega (arith, here (c .before .before .before .before .before .before .before .before .before .before) .whole, assigns c)
 
 slice-aggregate-fit-part : tie.Need-slice-aggregate-fit-part
 slice-aggregate-fit-part c = search needs
@@ -65,8 +75,10 @@ put-decimal-requires-2 c κs = search (needs, assigns (c .before .before .before
 
 put-tokens-requires : tie.Need-put-tokens-requires
 put-tokens-requires c κs =
-    let start = c .before .before .before .before .before .before .before .before .before .before .before .before .before .before .before .before .before .before .before .before .before in
-    let expr-at = c .before .before .before .before .before .before .before .before .before .before .before .before .before .before .before .before .before .before .expr-at in
+    let start = c .before .before .before .before .before .before .before .before .before .before .before .before .before .before .before
+    .before .before .before .before .before .before in
+    let expr-at = c .before .before .before .before .before .before .before .before .before .before .before .before .before .before .before
+    .before .before .before .expr-at in
     let after-if1 = c .before .before .before .before .before .before .before .before .before .before .before in
     (expr-is-whole (here start) (expr-at .ensures), search (needs, assigns after-if1))
 
@@ -74,25 +86,47 @@ slice-aggregate-fit-part-2 : tie.Need-slice-aggregate-fit-part-2
 slice-aggregate-fit-part-2 c = search needs
 
 fit-part-requires-2 : tie.Need-fit-part-requires-2
-fit-part-requires-2 c κs = search (needs, assigns (c .before .before .before .before .before .before .before .before .before .before .before .before .before .before .before .before))
+fit-part-requires-2 c κs =
+    search (
+      needs,
+      assigns (c .before .before .before .before .before .before .before .before .before .before .before .before .before
+          .before .before .before),
+    )
 
 same-length : tie.Need-same-length
 same-length c = search needs
 
 returns : tie.Need-returns
 returns c =
-    let start = c .before .before .before .before .before .before .before .before .before .before .before .before .before .before .before .before .before .before .before .before .before .before .before .before .before .before .before .before .before in
-    let expr-at = c .before .before .before .before .before .before .before .before .before .before .before .before .before .before .before .before .before .before .before .before .before .before .before .before .before .before .expr-at in
-    let two-at = c .before .before .before .before .before .before .before .before .before .before .before .before .before .before .before .before .before .before .before .before .before .before .before .before .two-at in
-    let put-decimal = c .before .before .before .before .before .before .before .before .before .before .before .before .before .before .before .before .before .before .before .before .before .before .put-decimal in
-    let after-if1 = c .before .before .before .before .before .before .before .before .before .before .before .before .before .before .before .before .before .before .before in
-    let two-at2 = c .before .before .before .before .before .before .before .before .before .before .before .before .before .before .before .before .before .before .two-at2 in
-    let fit-part = c .before .before .before .before .before .before .before .before .before .before .before .before .before .before .before .fit-part in
+    let start = c .before .before .before .before .before .before .before .before .before .before .before .before .before .before .before
+    .before .before .before .before .before .before .before .before .before .before .before .before .before .before in
+    let expr-at = c .before .before .before .before .before .before .before .before .before .before .before .before .before .before .before
+    .before .before .before .before .before .before .before .before .before .before .before .expr-at in
+    let two-at = c .before .before .before .before .before .before .before .before .before .before .before .before .before .before .before
+    .before .before .before .before .before .before .before .before .before .two-at in
+    let put-decimal = c .before .before .before .before .before .before .before .before .before .before .before .before .before .before
+    .before .before .before .before .before .before .before .before .put-decimal in
+    let after-if1 = c .before .before .before .before .before .before .before .before .before .before .before .before .before .before
+    .before .before .before .before .before in
+    let two-at2 = c .before .before .before .before .before .before .before .before .before .before .before .before .before .before .before
+    .before .before .before .two-at2 in
+    let fit-part = c .before .before .before .before .before .before .before .before .before .before .before .before .before .before
+    .before .fit-part in
     let put-decimal2 = c .before .before .before .before .before .before .before .before .before .before .before .put-decimal2 in
     let put-tokens = c .before .before .before .before .before .before .before .put-tokens in
     let fit-part2 = c .before .before .fit-part2 in (
-      wrote-as (assign-line (here start) (expr-at .ensures) (after-if1 .if1 .taken) _ _ (two-at .ensures .0) (two-at2 .ensures .0)) ((((put-decimal .ensures .0 then fit-part .ensures) then put-decimal2 .ensures .0) then put-tokens .ensures .0) then fit-part2 .ensures),
-      omega (arith, put-decimal .ensures .1, fit-part .ensures .next, put-decimal2 .ensures .1, put-tokens .ensures .1, fit-part2 .ensures .next, assigns after-if1),
+      wrote-as (assign-line (here start) (expr-at .ensures) (after-if1 .if1 .taken) _ _ (two-at .ensures .0) (two-at2 .ensures .0))
+          ((((put-decimal .ensures .0 then fit-part .ensures) then put-decimal2 .ensures .0) then put-tokens .ensures .0) then
+          fit-part2 .ensures),
+      omega (
+        arith,
+        put-decimal .ensures .1,
+        fit-part .ensures .next,
+        put-decimal2 .ensures .1,
+        put-tokens .ensures .1,
+        fit-part2 .ensures .next,
+        assigns after-if1,
+      ),
     )
 
 put-kind-requires : tie.Need-put-kind-requires
@@ -110,22 +144,36 @@ slice-aggregate-fit-part-3 : tie.Need-slice-aggregate-fit-part-3
 slice-aggregate-fit-part-3 c = search needs
 
 fit-part-requires-3 : tie.Need-fit-part-requires-3
-fit-part-requires-3 c κs = search (needs, c .before .before .before .before .before .before .before .before .put-kind .ensures .1, tests (c .before .before .before .before .before .before .before .before .before .before))
+fit-part-requires-3 c κs =
+    search (
+      needs,
+      c .before .before .before .before .before .before .before .before .put-kind .ensures .1,
+      tests
+          (c .before .before .before .before .before .before .before .before .before .before),
+    )
 
 same-length-2 : tie.Need-same-length-2
 same-length-2 c = search needs
 
 returns-2 : tie.Need-returns-2
 returns-2 c =
-    let start = c .before .before .before .before .before .before .before .before .before .before .before .before .before .before .before .before .before .before .before .before .before .before .before in
-    let expr-at = c .before .before .before .before .before .before .before .before .before .before .before .before .before .before .before .before .before .before .before .before .expr-at in
-    let two-at = c .before .before .before .before .before .before .before .before .before .before .before .before .before .before .before .before .before .before .two-at in
-    let put-decimal = c .before .before .before .before .before .before .before .before .before .before .before .before .before .before .before .before .put-decimal in
+    let start = c .before .before .before .before .before .before .before .before .before .before .before .before .before .before .before
+    .before .before .before .before .before .before .before .before in
+    let expr-at = c .before .before .before .before .before .before .before .before .before .before .before .before .before .before .before
+    .before .before .before .before .before .expr-at in
+    let two-at = c .before .before .before .before .before .before .before .before .before .before .before .before .before .before .before
+    .before .before .before .two-at in
+    let put-decimal = c .before .before .before .before .before .before .before .before .before .before .before .before .before .before
+    .before .before .put-decimal in
     let after-if1 = c .before .before .before .before .before .before .before .before .before .before .before .before .before in
     let put-kind = c .before .before .before .before .before .before .before .before .before .before .before .put-kind in
     let put-tokens2 = c .before .before .before .before .before .before .before .put-tokens2 in
-    let fit-part3 = c .before .before .fit-part3 in
-    (wrote-as (test-line (here start) (expr-at .ensures) (after-if1 .if1 .left) _ (two-at .ensures .0)) (((put-decimal .ensures .0 then put-kind .ensures .0) then put-tokens2 .ensures .0) then fit-part3 .ensures), omega (arith, put-decimal .ensures .1, put-kind .ensures .1, put-tokens2 .ensures .1, fit-part3 .ensures .next, tests after-if1))
+    let fit-part3 = c .before .before .fit-part3 in (
+      wrote-as (test-line (here start) (expr-at .ensures) (after-if1 .if1 .left) _ (two-at .ensures .0))
+          (((put-decimal .ensures .0 then put-kind .ensures .0) then put-tokens2 .ensures .0) then fit-part3 .ensures),
+      omega
+          (arith, put-decimal .ensures .1, put-kind .ensures .1, put-tokens2 .ensures .1, fit-part3 .ensures .next, tests after-if1),
+    )
 
 pub put-line-spec : {M : Type 1} → statement M
 put-line-spec =

@@ -15,28 +15,50 @@ abbrev μ-loop : tie.MeasureT-loop
 μ-loop trace n out₀ to k₀ at₀ next₀ out k at next = n - k
 
 loop-holds : tie.Need-loop-holds Inv-loop μ-loop
-loop-holds c = listing-start _ _ _ _ (all-at Byte (c .before .before .args .trace .now) (λ i h. c .before .shared-slice-known .given i .fits)) (c .before .before .pre .0) (c .before .before .pre .1) (c .before .before .pre .2)
+loop-holds c =
+    listing-start _ _ _ _ (all-at Byte (c .before .before .args .trace .now) (λ i h. c .before .shared-slice-known .given i .fits))
+    (c .before .before .pre .0) (c .before .before .pre .1) (c .before .before .pre .2)
 
 put-line-requires : tie.Need-put-line-requires Inv-loop μ-loop
-put-line-requires c κs = let v = c .before .before .loop .inv in let h = c .before .loop-test .taken in (omega (arith, v .inside, v .few), listing-good v h, listing-room v h)
+put-line-requires c κs = let v = c .before .before .loop .inv in let h = c .before .loop-test .taken in
+    (omega (arith, v .inside, v .few), listing-good v h, listing-room v h)
 
 two-at-requires : tie.Need-two-at-requires Inv-loop μ-loop
-two-at-requires c κs = omega (arith, listing-inside (c .before .before .before .before .before .loop .inv) (c .before .before .before .before .loop-test .taken))
+two-at-requires c κs =
+    omega (
+      arith,
+      listing-inside (c .before .before .before .before .before .loop .inv)
+          (c .before .before .before .before .loop-test .taken),
+    )
 
 add-at : tie.Need-add-at Inv-loop μ-loop
 add-at c = omega (arith, c .two-at .ensures .1)
 
 add-at-2 : tie.Need-add-at-2 Inv-loop μ-loop
-add-at-2 c = omega (arith, c .two-at .ensures .0, listing-inside (c .before .before .before .before .before .before .loop .inv) (c .before .before .before .before .before .loop-test .taken), c .before .before .before .before .before .before .loop .inv .few)
+add-at-2 c =
+    omega (
+      arith,
+      c .two-at .ensures .0,
+      listing-inside (c .before .before .before .before .before .before .loop .inv)
+          (c .before .before .before .before .before .loop-test .taken),
+      c .before .before .before .before .before .before .loop .inv .few,
+    )
 
 add-k : tie.Need-add-k Inv-loop μ-loop
-add-k c = omega (arith, c .before .before .before .before .before .loop-test .taken, c .before .before .before .before .before .before .loop .inv .count)
+add-k c =
+    omega (
+      arith,
+      c .before .before .before .before .before .loop-test .taken,
+      c .before .before .before .before .before .before .loop .inv .count,
+    )
 
 loop-less : tie.Need-loop-less Inv-loop μ-loop
 loop-less c = omega (arith, c .before .before .before .before .before .loop-test .taken)
 
 loop-again : tie.Need-loop-again Inv-loop μ-loop
-loop-again c = listing-on (c .before .before .before .before .before .before .loop .inv) (c .before .before .before .before .before .loop-test .taken) (c .before .before .before .put-line .ensures) _ (c .two-at .ensures .0)
+loop-again c =
+    listing-on (c .before .before .before .before .before .before .loop .inv) (c .before .before .before .before .before .loop-test .taken)
+    (c .before .before .before .put-line .ensures) _ (c .two-at .ensures .0)
 
 same-length : tie.Need-same-length Inv-loop μ-loop
 same-length c = ahead-length (c .before .loop .inv .wrote)

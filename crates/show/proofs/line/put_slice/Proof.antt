@@ -19,7 +19,11 @@ two-at-requires : tie.Need-two-at-requires
 two-at-requires c κs = omega (arith, here (c .before .before .before .before) .long)
 
 put-first-requires : tie.Need-put-first-requires
-put-first-requires c κs = (omega (arith, c .before .before .wide .ensures .0, here (c .before .before .before .before .before .before) .inputs), omega (arith, c .before .two-at .ensures .0, here (c .before .before .before .before .before .before) .count))
+put-first-requires c κs = (
+  omega (arith, c .before .before .wide .ensures .0, here (c .before .before .before .before .before .before) .inputs),
+  omega
+      (arith, c .before .two-at .ensures .0, here (c .before .before .before .before .before .before) .count),
+)
 
 put-lines-requires : tie.Need-put-lines-requires
 put-lines-requires c κs = search needs
@@ -33,8 +37,11 @@ returns c =
     let wide = c .before .before .before .before .before .before .before .before .before .wide in
     let two-at = c .before .before .before .before .before .before .before .before .two-at in
     let put-first = c .before .before .before .before .before .before .put-first in
-    let put-lines = c .before .before .put-lines in
-    (wrote-as (told-text _ (here start) (wide .result) (two-at .result) (wide .ensures .0) (two-at .ensures .0)) (put-first .ensures .0 then put-lines .ensures .0), put-lines .ensures .1)
+    let put-lines = c .before .before .put-lines in (
+      wrote-as (told-text _ (here start) (wide .result) (two-at .result) (wide .ensures .0) (two-at .ensures .0))
+          (put-first .ensures .0 then put-lines .ensures .0),
+      put-lines .ensures .1,
+    )
 
 pub put-slice-spec : {M : Type 1} → statement M
 put-slice-spec =

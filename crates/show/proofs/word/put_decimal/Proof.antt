@@ -29,7 +29,14 @@ add-digit : tie.Need-add-digit Inv-loop μ-loop
 add-digit c = search needs
 
 add-store : tie.Need-add-store Inv-loop μ-loop
-add-store c = omega (arith, c .before .before .loop .inv .inside, c .before .before .before .digits .ensures .2, c .before .before .before .before .before .pre, c .before .loop-test .taken)
+add-store c =
+    omega (
+      arith,
+      c .before .before .loop .inv .inside,
+      c .before .before .before .digits .ensures .2,
+      c .before .before .before .before .before .pre,
+      c .before .loop-test .taken,
+    )
 
 store-requires : tie.Need-store-requires Inv-loop μ-loop
 store-requires c κs = search needs
@@ -41,7 +48,8 @@ loop-again : tie.Need-loop-again Inv-loop μ-loop
 loop-again c =
     let v = c .before .before .before .before .before .loop in
     let start = c .before .before .before .before .before .before .before .before .args in
-    subst (λ o. Storing (start .v) (start .out .now) (start .at) (c .before .before .before .before .before .before .digits .result) o (v .i - 1) (v .rest / 10))
+    subst (λ o. Storing (start .v) (start .out .now) (start .at) (c .before .before .before .before .before .before .digits .result) o
+    (v .i - 1) (v .rest / 10))
     (sym (c .before .before .store .ensures))
     (store-on (v .inv) (v .i - 1) (omega (arith, c .before .before .before .before .loop-test .taken)))
 
@@ -52,7 +60,8 @@ same-length : tie.Need-same-length Inv-loop μ-loop
 same-length c = storing-length (c .before .loop .inv)
 
 returns : tie.Need-returns Inv-loop μ-loop
-returns c = let d = c .before .before .digits .ensures in (stored (c .before .loop .inv) (omega (arith, c .loop-test .left)) (d .0), omega (arith, d .2))
+returns c = let d = c .before .before .digits .ensures in
+    (stored (c .before .loop .inv) (omega (arith, c .loop-test .left)) (d .0), omega (arith, d .2))
 
 pub put-decimal-spec : {M : Type 1} → statement M
 put-decimal-spec =

@@ -21,7 +21,12 @@ same-length : tie.Need-same-length
 same-length c = search needs
 
 returns : tie.Need-returns
-returns c = (wrote-as (sym (ap (λ b. ascii " " ++ ascii (kindName (cond b Assert Assume))) (eq-eqb _ 3 (c .before .before .before .before .before .if1 .taken)))) (c .before .before .fit-part .ensures), omega (arith, c .before .before .fit-part .ensures .next))
+returns c = (
+  wrote-as (sym (ap (λ b. ascii " " ++ ascii (kindName (cond b Assert Assume)))
+      (eq-eqb _ 3 (c .before .before .before .before .before .if1 .taken)))) (c .before .before .fit-part .ensures),
+  omega
+      (arith, c .before .before .fit-part .ensures .next),
+)
 
 slice-aggregate-fit-part-2 : tie.Need-slice-aggregate-fit-part-2
 slice-aggregate-fit-part-2 c = search needs
@@ -33,7 +38,12 @@ same-length-2 : tie.Need-same-length-2
 same-length-2 c = search needs
 
 returns-2 : tie.Need-returns-2
-returns-2 c = (wrote-as (sym (ap (λ b. ascii " " ++ ascii (kindName (cond b Assert Assume))) (ne-eqb _ 3 (c .before .before .before .before .before .if1 .left)))) (c .before .before .fit-part2 .ensures), omega (arith, c .before .before .fit-part2 .ensures .next))
+returns-2 c = (
+  wrote-as (sym (ap (λ b. ascii " " ++ ascii (kindName (cond b Assert Assume)))
+      (ne-eqb _ 3 (c .before .before .before .before .before .if1 .left)))) (c .before .before .fit-part2 .ensures),
+  omega
+      (arith, c .before .before .fit-part2 .ensures .next),
+)
 
 pub put-kind-spec : {M : Type 1} → statement M
 put-kind-spec =

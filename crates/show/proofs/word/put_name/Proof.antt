@@ -122,119 +122,136 @@ same-length c = search needs
 
 returns : tie.Need-returns
 unfolding nameOf operator
-returns c = named _ 0x10 _ (c .before .before .before .before .before .match .keys1) refl (omega arith) (c .before .before .fit-part .ensures)
+returns c =
+    named _ 0x10 _ (c .before .before .before .before .before .match .keys1) refl (omega arith) (c .before .before .fit-part .ensures)
 
 same-length-2 : tie.Need-same-length-2
 same-length-2 c = search needs
 
 returns-2 : tie.Need-returns-2
 unfolding nameOf operator
-returns-2 c = named _ 0x11 _ (c .before .before .before .before .before .match .keys2) refl (omega arith) (c .before .before .fit-part2 .ensures)
+returns-2 c =
+    named _ 0x11 _ (c .before .before .before .before .before .match .keys2) refl (omega arith) (c .before .before .fit-part2 .ensures)
 
 same-length-3 : tie.Need-same-length-3
 same-length-3 c = search needs
 
 returns-3 : tie.Need-returns-3
 unfolding nameOf operator
-returns-3 c = named _ 0x12 _ (c .before .before .before .before .before .match .keys3) refl (omega arith) (c .before .before .fit-part3 .ensures)
+returns-3 c =
+    named _ 0x12 _ (c .before .before .before .before .before .match .keys3) refl (omega arith) (c .before .before .fit-part3 .ensures)
 
 same-length-4 : tie.Need-same-length-4
 same-length-4 c = search needs
 
 returns-4 : tie.Need-returns-4
 unfolding nameOf operator
-returns-4 c = named _ 0x20 _ (c .before .before .before .before .before .match .keys4) refl (omega arith) (c .before .before .fit-part4 .ensures)
+returns-4 c =
+    named _ 0x20 _ (c .before .before .before .before .before .match .keys4) refl (omega arith) (c .before .before .fit-part4 .ensures)
 
 same-length-5 : tie.Need-same-length-5
 same-length-5 c = search needs
 
 returns-5 : tie.Need-returns-5
 unfolding nameOf operator
-returns-5 c = named _ 0x21 _ (c .before .before .before .before .before .match .keys5) refl (omega arith) (c .before .before .fit-part5 .ensures)
+returns-5 c =
+    named _ 0x21 _ (c .before .before .before .before .before .match .keys5) refl (omega arith) (c .before .before .fit-part5 .ensures)
 
 same-length-6 : tie.Need-same-length-6
 same-length-6 c = search needs
 
 returns-6 : tie.Need-returns-6
 unfolding nameOf operator
-returns-6 c = named _ 0x22 _ (c .before .before .before .before .before .match .keys6) refl (omega arith) (c .before .before .fit-part6 .ensures)
+returns-6 c =
+    named _ 0x22 _ (c .before .before .before .before .before .match .keys6) refl (omega arith) (c .before .before .fit-part6 .ensures)
 
 same-length-7 : tie.Need-same-length-7
 same-length-7 c = search needs
 
 returns-7 : tie.Need-returns-7
 unfolding nameOf operator
-returns-7 c = named _ 0x23 _ (c .before .before .before .before .before .match .keys7) refl (omega arith) (c .before .before .fit-part7 .ensures)
+returns-7 c =
+    named _ 0x23 _ (c .before .before .before .before .before .match .keys7) refl (omega arith) (c .before .before .fit-part7 .ensures)
 
 same-length-8 : tie.Need-same-length-8
 same-length-8 c = search needs
 
 returns-8 : tie.Need-returns-8
 unfolding nameOf operator
-returns-8 c = named _ 0x24 _ (c .before .before .before .before .before .match .keys8) refl (omega arith) (c .before .before .fit-part8 .ensures)
+returns-8 c =
+    named _ 0x24 _ (c .before .before .before .before .before .match .keys8) refl (omega arith) (c .before .before .fit-part8 .ensures)
 
 same-length-9 : tie.Need-same-length-9
 same-length-9 c = search needs
 
 returns-9 : tie.Need-returns-9
 unfolding nameOf operator
-returns-9 c = named _ 0x25 _ (c .before .before .before .before .before .match .keys9) refl (omega arith) (c .before .before .fit-part9 .ensures)
+returns-9 c =
+    named _ 0x25 _ (c .before .before .before .before .before .match .keys9) refl (omega arith) (c .before .before .fit-part9 .ensures)
 
 same-length-10 : tie.Need-same-length-10
 same-length-10 c = search needs
 
 returns-10 : tie.Need-returns-10
 unfolding nameOf operator
-returns-10 c = named _ 0x26 _ (c .before .before .before .before .before .match .keys10) refl (omega arith) (c .before .before .fit-part10 .ensures)
+returns-10 c =
+    named _ 0x26 _ (c .before .before .before .before .before .match .keys10) refl (omega arith) (c .before .before .fit-part10 .ensures)
 
 same-length-11 : tie.Need-same-length-11
 same-length-11 c = search needs
 
 returns-11 : tie.Need-returns-11
 unfolding nameOf operator
-returns-11 c = named _ 0x27 _ (c .before .before .before .before .before .match .keys11) refl (omega arith) (c .before .before .fit-part11 .ensures)
+returns-11 c =
+    named _ 0x27 _ (c .before .before .before .before .before .match .keys11) refl (omega arith) (c .before .before .fit-part11 .ensures)
 
 same-length-12 : tie.Need-same-length-12
 same-length-12 c = search needs
 
 returns-12 : tie.Need-returns-12
 unfolding nameOf operator
-returns-12 c = named _ 0x28 _ (c .before .before .before .before .before .match .keys12) refl (omega arith) (c .before .before .fit-part12 .ensures)
+returns-12 c =
+    named _ 0x28 _ (c .before .before .before .before .before .match .keys12) refl (omega arith) (c .before .before .fit-part12 .ensures)
 
 same-length-13 : tie.Need-same-length-13
 same-length-13 c = search needs
 
 returns-13 : tie.Need-returns-13
 unfolding nameOf operator
-returns-13 c = named _ 0x29 _ (c .before .before .before .before .before .match .keys13) refl (omega arith) (c .before .before .fit-part13 .ensures)
+returns-13 c =
+    named _ 0x29 _ (c .before .before .before .before .before .match .keys13) refl (omega arith) (c .before .before .fit-part13 .ensures)
 
 same-length-14 : tie.Need-same-length-14
 same-length-14 c = search needs
 
 returns-14 : tie.Need-returns-14
 unfolding nameOf operator
-returns-14 c = named _ 0x2A _ (c .before .before .before .before .before .match .keys14) refl (omega arith) (c .before .before .fit-part14 .ensures)
+returns-14 c =
+    named _ 0x2A _ (c .before .before .before .before .before .match .keys14) refl (omega arith) (c .before .before .fit-part14 .ensures)
 
 same-length-15 : tie.Need-same-length-15
 same-length-15 c = search needs
 
 returns-15 : tie.Need-returns-15
 unfolding nameOf operator
-returns-15 c = named _ 0x2B _ (c .before .before .before .before .before .match .keys15) refl (omega arith) (c .before .before .fit-part15 .ensures)
+returns-15 c =
+    named _ 0x2B _ (c .before .before .before .before .before .match .keys15) refl (omega arith) (c .before .before .fit-part15 .ensures)
 
 same-length-16 : tie.Need-same-length-16
 same-length-16 c = search needs
 
 returns-16 : tie.Need-returns-16
 unfolding nameOf operator
-returns-16 c = named _ 0x2C _ (c .before .before .before .before .before .match .keys16) refl (omega arith) (c .before .before .fit-part16 .ensures)
+returns-16 c =
+    named _ 0x2C _ (c .before .before .before .before .before .match .keys16) refl (omega arith) (c .before .before .fit-part16 .ensures)
 
 same-length-17 : tie.Need-same-length-17
 same-length-17 c = search needs
 
 returns-17 : tie.Need-returns-17
 unfolding nameOf operator
-returns-17 c = named _ 0x2D _ (c .before .before .before .before .before .match .keys17) refl (omega arith) (c .before .before .fit-part17 .ensures)
+returns-17 c =
+    named _ 0x2D _ (c .before .before .before .before .before .match .keys17) refl (omega arith) (c .before .before .fit-part17 .ensures)
 
 same-length-18 : tie.Need-same-length-18
 same-length-18 c = search needs
@@ -244,8 +261,15 @@ unfolding nameOf operator
 returns-18 c = let r = c .before .before .before .before .before .match .rest in
     named _ 0x30 _
     (only-ite _ (search needs) (c .before .before .before .before .before .before .before .pre .0)
-    (λ l. above 0x12 (above 0x11 (above 0x10 l (r .0 .0 .0 .0 .0 .0 .0 .0 .0 .0 .0 .0 .0 .0 .0 .0 .1)) (r .0 .0 .0 .0 .0 .0 .0 .0 .0 .0 .0 .0 .0 .0 .0 .1)) (r .0 .0 .0 .0 .0 .0 .0 .0 .0 .0 .0 .0 .0 .0 .1))
-    (λ l. above 0x2D (above 0x2C (above 0x2B (above 0x2A (above 0x29 (above 0x28 (above 0x27 (above 0x26 (above 0x25 (above 0x24 (above 0x23 (above 0x22 (above 0x21 (above 0x20 l (r .0 .0 .0 .0 .0 .0 .0 .0 .0 .0 .0 .0 .0 .1)) (r .0 .0 .0 .0 .0 .0 .0 .0 .0 .0 .0 .0 .1)) (r .0 .0 .0 .0 .0 .0 .0 .0 .0 .0 .0 .1)) (r .0 .0 .0 .0 .0 .0 .0 .0 .0 .0 .1)) (r .0 .0 .0 .0 .0 .0 .0 .0 .0 .1)) (r .0 .0 .0 .0 .0 .0 .0 .0 .1)) (r .0 .0 .0 .0 .0 .0 .0 .1)) (r .0 .0 .0 .0 .0 .0 .1)) (r .0 .0 .0 .0 .0 .1)) (r .0 .0 .0 .0 .1)) (r .0 .0 .0 .1)) (r .0 .0 .1)) (r .0 .1)) (r .1)))
+    (λ l. above 0x12 (above 0x11 (above 0x10 l (r .0 .0 .0 .0 .0 .0 .0 .0 .0 .0 .0 .0 .0 .0 .0 .0 .1))
+    (r .0 .0 .0 .0 .0 .0 .0 .0 .0 .0 .0 .0 .0 .0 .0 .1)) (r .0 .0 .0 .0 .0 .0 .0 .0 .0 .0 .0 .0 .0 .0 .1))
+    (λ l. above 0x2D (above 0x2C (above 0x2B
+    (above 0x2A (above 0x29 (above 0x28 (above 0x27
+    (above 0x26 (above 0x25 (above 0x24 (above 0x23
+    (above 0x22 (above 0x21 (above 0x20 l (r .0 .0 .0 .0 .0 .0 .0 .0 .0 .0 .0 .0 .0 .1)) (r .0 .0 .0 .0 .0 .0 .0 .0 .0 .0 .0 .0 .1))
+    (r .0 .0 .0 .0 .0 .0 .0 .0 .0 .0 .0 .1)) (r .0 .0 .0 .0 .0 .0 .0 .0 .0 .0 .1)) (r .0 .0 .0 .0 .0 .0 .0 .0 .0 .1))
+    (r .0 .0 .0 .0 .0 .0 .0 .0 .1)) (r .0 .0 .0 .0 .0 .0 .0 .1)) (r .0 .0 .0 .0 .0 .0 .1)) (r .0 .0 .0 .0 .0 .1)) (r .0 .0 .0 .0 .1))
+    (r .0 .0 .0 .1)) (r .0 .0 .1)) (r .0 .1)) (r .1)))
     refl (omega arith) (c .before .before .fit-part18 .ensures)
 
 pub put-name-spec : {M : Type 1} → statement M

@@ -33,12 +33,23 @@ same-length c = search needs
 
 returns : tie.Need-returns
 returns c =
-    let fit-part = c .before .before .before .before .before .before .before .before .before .before .before .before .before .before .before .before .before .before .before .before .fit-part in
-    let put-decimal = c .before .before .before .before .before .before .before .before .before .before .before .before .before .before .before .before .put-decimal in
+    let fit-part = c .before .before .before .before .before .before .before .before .before .before .before .before .before .before
+    .before .before .before .before .before .before .fit-part in
+    let put-decimal = c .before .before .before .before .before .before .before .before .before .before .before .before .before .before
+    .before .before .put-decimal in
     let fit-part2 = c .before .before .before .before .before .before .before .before .before .before .before .fit-part2 in
     let put-decimal2 = c .before .before .before .before .before .before .before .put-decimal2 in
-    let fit-part3 = c .before .before .fit-part3 in
-    ((((fit-part .ensures then put-decimal .ensures .0) then fit-part2 .ensures) then put-decimal2 .ensures .0) then fit-part3 .ensures, omega (arith, fit-part .ensures .next, put-decimal .ensures .1, fit-part2 .ensures .next, put-decimal2 .ensures .1, fit-part3 .ensures .next))
+    let fit-part3 = c .before .before .fit-part3 in (
+      (((fit-part .ensures then put-decimal .ensures .0) then fit-part2 .ensures) then put-decimal2 .ensures .0) then fit-part3 .ensures,
+      omega (
+        arith,
+        fit-part .ensures .next,
+        put-decimal .ensures .1,
+        fit-part2 .ensures .next,
+        put-decimal2 .ensures .1,
+        fit-part3 .ensures .next,
+      ),
+    )
 
 pub put-refusal-spec : {M : Type 1} → statement M
 put-refusal-spec =

@@ -17,11 +17,16 @@ abbrev μ-loop : tie.MeasureT-loop
 loop-holds : tie.Need-loop-holds Inv-loop μ-loop
 loop-holds c = putting-start _ _ _ (c .before .before .pre .0)
 
-on : (c : tie.After-struct-known Inv-loop μ-loop) → PutOn (c .before .before .before .before .before .before .loop .inv) (c .before .before .before .before .before .loop-test .taken) (c .before .before .before .put-token .last .1 .1 .0) (c .before .before .before .put-token .result .size) (c .before .before .before .put-token .result .to)
-on c = put-on (c .before .before .before .before .before .before .loop .inv) (c .before .before .before .before .before .loop-test .taken) (c .before .before .before .put-token .ensures)
+on : (c : tie.After-struct-known Inv-loop μ-loop) → PutOn (c .before .before .before .before .before .before .loop .inv)
+    (c .before .before .before .before .before .loop-test .taken) (c .before .before .before .put-token .last .1 .1 .0)
+    (c .before .before .before .put-token .result .size) (c .before .before .before .put-token .result .to)
+on c =
+    put-on (c .before .before .before .before .before .before .loop .inv) (c .before .before .before .before .before .loop-test .taken)
+    (c .before .before .before .put-token .ensures)
 
 put-token-requires : tie.Need-put-token-requires Inv-loop μ-loop
-put-token-requires c κs = let v = c .before .before .loop .inv in let h = c .before .loop-test .taken in (h, stands (v .rest) h, putting-room v h (c .before .before .before .before .before .pre .1))
+put-token-requires c κs = let v = c .before .before .loop .inv in let h = c .before .loop-test .taken in
+    (h, stands (v .rest) h, putting-room v h (c .before .before .before .before .before .pre .1))
 
 add-i : tie.Need-add-i Inv-loop μ-loop
 add-i c = omega (arith, on c .then .rest .inside)

@@ -24,16 +24,30 @@ two-at-requires : tie.Need-two-at-requires
 two-at-requires c κs = omega (arith, here (c .before .before .before .before) .assigns (c .if1 .taken) .2)
 
 ask-requires : tie.Need-ask-requires
-ask-requires c κs = omega (arith, here (c .before .before .before .before .before) .assigns (c .before .if1 .taken) .1, c .two-at .ensures .0, c .before .before .before .before .before .pre .1)
+ask-requires c κs =
+    omega (
+      arith,
+      here (c .before .before .before .before .before) .assigns (c .before .if1 .taken) .1,
+      c .two-at .ensures .0,
+      c .before .before .before .before .before .pre .1,
+    )
 
 returns : tie.Need-returns
-returns c = c .ask .ensures ∙ keeps-assign (here (c .before .before .before .before .before .before)) (c .before .before .before .before .before .before .args .asserts) (inSet (c .before .before .before .before .before .before .args .needed .now)) (c .before .before .if1 .taken) _ (c .before .two-at .ensures .0)
+returns c =
+    c .ask .ensures ∙ keeps-assign (here (c .before .before .before .before .before .before))
+    (c .before .before .before .before .before .before .args .asserts)
+    (inSet (c .before .before .before .before .before .before .args .needed .now)) (c .before .before .if1 .taken) _
+    (c .before .two-at .ensures .0)
 
 returns-2 : tie.Need-returns-2
-returns-2 c = keeps-assert (here (c .before .before .before .before .before)) (c .before .before .before .before .before .args .asserts) (inSet (c .before .before .before .before .before .args .needed .now)) (c .if2 .taken)
+returns-2 c =
+    keeps-assert (here (c .before .before .before .before .before)) (c .before .before .before .before .before .args .asserts)
+    (inSet (c .before .before .before .before .before .args .needed .now)) (c .if2 .taken)
 
 returns-3 : tie.Need-returns-3
-returns-3 c = keeps-assume (here (c .before .before .before .before .before)) (c .before .before .before .before .before .args .asserts) (inSet (c .before .before .before .before .before .args .needed .now)) (c .before .if1 .left) (c .if2 .left)
+returns-3 c =
+    keeps-assume (here (c .before .before .before .before .before)) (c .before .before .before .before .before .args .asserts)
+    (inSet (c .before .before .before .before .before .args .needed .now)) (c .before .if1 .left) (c .if2 .left)
 
 pub keeps-spec : {M : Type 1} → statement M
 keeps-spec =

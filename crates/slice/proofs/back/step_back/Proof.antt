@@ -22,7 +22,8 @@ add-has-assert : tie.Need-add-has-assert
 add-has-assert c = search needs
 
 shared-slice-read-has-assert : tie.Need-shared-slice-read-has-assert
-shared-slice-read-has-assert c = here (c .before .before .before .before .before .before .before .before .before .before .before) .kind-there
+shared-slice-read-has-assert c =
+    here (c .before .before .before .before .before .before .before .before .before .before .before) .kind-there
 
 has-assert-requires : tie.Need-has-assert-requires
 has-assert-requires c κs = search needs
@@ -31,7 +32,8 @@ add-t18 : tie.Need-add-t18
 add-t18 c = search needs
 
 two-at-requires : tie.Need-two-at-requires
-two-at-requires c κs = omega (arith, here (c .before .before .before .before .before .before .before .before .before .before .before .before .before) .whole)
+two-at-requires c κs =
+    omega (arith, here (c .before .before .before .before .before .before .before .before .before .before .before .before .before) .whole)
 
 add-t20 : tie.Need-add-t20
 add-t20 c = search needs
@@ -52,13 +54,15 @@ returns c =
     let if1 = c .before .before .before .before .before .before .before .before .before .if1 in
     let mark-record = c .before .before .before .before .before .before .before .mark-record in
     let has-assert = c .before .before .before .has-assert in
-    stepped-kept (here s) (s .args .k) (s .args .behind) (s .args .kept .now) (s .args .needed .now) _ (keeps .ensures) (if1 .taken) (mark-record .last .1 .1 .0) (mark-record .ensures) _ (has-assert .ensures) _ (c .before .two-at .ensures .0)
+    stepped-kept (here s) (s .args .k) (s .args .behind) (s .args .kept .now) (s .args .needed .now) _ (keeps .ensures) (if1 .taken)
+    (mark-record .last .1 .1 .0) (mark-record .ensures) _ (has-assert .ensures) _ (c .before .two-at .ensures .0)
 
 same-length-3 : tie.Need-same-length-3
 same-length-3 c = search needs
 
 returns-2 : tie.Need-returns-2
-returns-2 c = let s = c .before .before .before .before .before .before in stepped-dropped (here s) (s .args .k) (s .args .behind) (s .args .kept .now) (s .args .needed .now) _ (c .before .keeps .ensures) (c .if1 .left)
+returns-2 c = let s = c .before .before .before .before .before .before in stepped-dropped (here s) (s .args .k) (s .args .behind)
+    (s .args .kept .now) (s .args .needed .now) _ (c .before .keeps .ensures) (c .if1 .left)
 
 pub step-back-spec : {M : Type 1} → statement M
 step-back-spec =

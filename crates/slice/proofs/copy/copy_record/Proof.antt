@@ -24,7 +24,9 @@ rest-of-requires c κs = (omega arith, here (c .before .before .before) .whole)
 put-part-requires : tie.Need-put-part-requires
 put-part-requires c κs =
     let s = c .before .before .before .before .before in
-    subst (λ bs. s .args .to + length bs ≤ length (s .args .out .now)) (sym (part-is (here s) (s .args .keep) (bytes (c .before .before .before .before)) (c .before .before .if1 .taken) (c .before .rest-of .ensures))) (s .pre .2)
+    subst (λ bs. s .args .to + length bs ≤ length (s .args .out .now))
+    (sym (part-is (here s) (s .args .keep) (bytes (c .before .before .before .before)) (c .before .before .if1 .taken)
+    (c .before .rest-of .ensures))) (s .pre .2)
 
 same-length : tie.Need-same-length
 same-length c = search needs
@@ -32,7 +34,9 @@ same-length c = search needs
 returns : tie.Need-returns
 returns c =
     let s = c .before .before .before .before .before .before .before .before in
-    wrote-as (part-is (here s) (s .args .keep) (bytes (c .before .before .before .before .before .before .before)) (c .before .before .before .before .before .if1 .taken) (c .before .before .before .before .rest-of .ensures)) (c .before .before .put-part .ensures)
+    wrote-as (part-is (here s) (s .args .keep) (bytes (c .before .before .before .before .before .before .before))
+    (c .before .before .before .before .before .if1 .taken) (c .before .before .before .before .rest-of .ensures))
+    (c .before .before .put-part .ensures)
 
 returns-2 : tie.Need-returns-2
 returns-2 c = let s = c .before .before .before in none-written (here s) (s .args .keep) (s .args .out .now) (s .args .to) (c .if1 .left)

@@ -22,7 +22,12 @@ ask-requires : tie.Need-ask-requires Inv-loop μ-loop
 ask-requires c κs = omega (arith, c .loop-test .taken, c .before .before .before .pre .1)
 
 with-bit-requires : tie.Need-with-bit-requires Inv-loop μ-loop
-with-bit-requires c κs = (omega (arith, c .before .loop-test .taken, c .before .before .before .before .pre .0), subst (λ m. m < 2 ^ c .before .before .loop .s) (sym (c .before .before .loop .inv .1)) (mask-lt (c .before .before .loop .s) (inSet (c .before .before .before .before .args .needed .now))))
+with-bit-requires c κs = (
+  omega (arith, c .before .loop-test .taken, c .before .before .before .before .pre .0),
+  subst (λ m. m < 2 ^ c .before .before .loop .s)
+      (sym (c .before .before .loop .inv .1)) (mask-lt (c .before .before .loop .s)
+      (inSet (c .before .before .before .before .args .needed .now))),
+)
 
 add-s : tie.Need-add-s Inv-loop μ-loop
 add-s c = omega (arith, c .before .before .loop-test .taken, c .before .before .before .before .before .pre .0)
@@ -31,7 +36,11 @@ loop-less : tie.Need-loop-less Inv-loop μ-loop
 loop-less c = omega (arith, c .before .before .loop-test .taken)
 
 loop-again : tie.Need-loop-again Inv-loop μ-loop
-loop-again c = (omega (arith, c .before .before .loop-test .taken), mask-on (inSet (c .before .before .before .before .before .args .needed .now)) _ _ _ _ (c .before .before .before .loop .inv .1) (c .before .ask .ensures) (c .with-bit .ensures))
+loop-again c = (
+  omega (arith, c .before .before .loop-test .taken),
+  mask-on (inSet (c .before .before .before .before .before .args .needed .now)) _ _
+      _ _ (c .before .before .before .loop .inv .1) (c .before .ask .ensures) (c .with-bit .ensures),
+)
 
 returns : tie.Need-returns Inv-loop μ-loop
 returns c =

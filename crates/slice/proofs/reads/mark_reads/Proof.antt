@@ -19,11 +19,18 @@ abbrev μ-loop : tie.MeasureT-loop
 loop-holds : tie.Need-loop-holds Inv-loop μ-loop
 loop-holds c = marking-start _ _ (c .before .before .pre)
 
-on : (c : tie.After-slice-known2 Inv-loop μ-loop) → MarkOn (c .before .before .before .before .before .loop .inv) (c .before .before .mark-token .last .1 .1 .0) (c .before .before .mark-token .result)
-on c = mark-on (c .before .before .before .before .before .loop .inv) (c .before .before .before .before .loop-test .taken) (c .before .before .mark-token .kept .1 .1 .0) (c .before .before .mark-token .ensures)
+on : (c : tie.After-slice-known2 Inv-loop μ-loop) → MarkOn (c .before .before .before .before .before .loop .inv)
+    (c .before .before .mark-token .last .1 .1 .0) (c .before .before .mark-token .result)
+on c =
+    mark-on (c .before .before .before .before .before .loop .inv) (c .before .before .before .before .loop-test .taken)
+    (c .before .before .mark-token .kept .1 .1 .0) (c .before .before .mark-token .ensures)
 
 mark-token-requires : tie.Need-mark-token-requires Inv-loop μ-loop
-mark-token-requires c κs = let v = c .before .before .loop .inv in let h = c .before .loop-test .taken in (h, subst (λ n. Stands Trace n (c .before .before .before .before .before .args .e .now) (c .before .before .loop .i)) (sym (v .long)) (stands (v .rest) h))
+mark-token-requires c κs = let v = c .before .before .loop .inv in let h = c .before .loop-test .taken in (
+  h,
+  subst (λ n. Stands Trace n (c .before .before .before .before .before .args .e .now) (c .before .before .loop .i)) (sym (v .long))
+      (stands (v .rest) h),
+)
 
 add-i : tie.Need-add-i Inv-loop μ-loop
 add-i c = omega (arith, on c .then .rest .inside)

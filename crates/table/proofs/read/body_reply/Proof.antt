@@ -1,5 +1,6 @@
 use mathlib.Core.Path.{sym, _∙_}
-use Rattle.table.proofs.Bodies.{assign-short, assign-rule, assign-expr, goto-short, goto-rule, goto-expr, assume-expr, assert-expr, unknown}
+use Rattle.table.proofs.Bodies.{assign-short, assign-rule, assign-expr, goto-short, goto-rule, goto-expr, assume-expr, assert-expr}
+use Rattle.table.proofs.Bodies.{unknown}
 use borrow.Author.Needs.{needs}
 use Rattle.table.proofs.read.body_reply.Statement.{statement}
 use Rattle.table.proofs.read.body_reply.Tie as tie
@@ -8,49 +9,63 @@ shared-slice-read-kind : tie.Need-shared-slice-read-kind
 shared-slice-read-kind c = search needs
 
 returns : tie.Need-returns
-returns c = let s = c .before .before .before .before in sym (assign-short (s .args .inputs) (s .args .n) (s .args .body .now) (s .pre) (c .before .if1 .taken) (c .if2 .taken))
+returns c = let s = c .before .before .before .before in
+    sym (assign-short (s .args .inputs) (s .args .n) (s .args .body .now) (s .pre) (c .before .if1 .taken) (c .if2 .taken))
 
 byte-at-requires : tie.Need-byte-at-requires
 byte-at-requires c κs = search needs
 
 returns-2 : tie.Need-returns-2
-returns-2 c = let s = c .before .before .before .before .before .before in sym (assign-rule (s .args .inputs) (s .args .n) (s .args .body .now) (s .pre) (c .before .before .before .if1 .taken) (c .before .before .if2 .left) (rw (c .before .byte-at .ensures .0) at (c .if3 .taken)))
+returns-2 c = let s = c .before .before .before .before .before .before in
+    sym (assign-rule (s .args .inputs) (s .args .n) (s .args .body .now) (s .pre) (c .before .before .before .if1 .taken)
+    (c .before .before .if2 .left) (rw (c .before .byte-at .ensures .0) at (c .if3 .taken)))
 
 expr-reply-requires : tie.Need-expr-reply-requires
 expr-reply-requires c κs = search needs
 
 returns-3 : tie.Need-returns-3
-returns-3 c = let s = c .before .before .before .before .before .before .before in c .expr-reply .ensures ∙ sym (assign-expr (s .args .inputs) (s .args .n) (s .args .body .now) (s .pre) (c .before .before .before .before .if1 .taken) (c .before .before .before .if2 .left) (rw (c .before .before .byte-at .ensures .0) at (c .before .if3 .left)))
+returns-3 c = let s = c .before .before .before .before .before .before .before in c .expr-reply .ensures
+    ∙ sym (assign-expr (s .args .inputs) (s .args .n) (s .args .body .now) (s .pre) (c .before .before .before .before .if1 .taken)
+    (c .before .before .before .if2 .left) (rw (c .before .before .byte-at .ensures .0) at (c .before .if3 .left)))
 
 returns-4 : tie.Need-returns-4
-returns-4 c = let s = c .before .before .before .before .before in sym (goto-short (s .args .inputs) (s .args .n) (s .args .body .now) (s .pre) (c .before .if4 .taken) (c .if5 .taken))
+returns-4 c = let s = c .before .before .before .before .before in
+    sym (goto-short (s .args .inputs) (s .args .n) (s .args .body .now) (s .pre) (c .before .if4 .taken) (c .if5 .taken))
 
 two-at-requires : tie.Need-two-at-requires
 two-at-requires c κs = search needs
 
 returns-5 : tie.Need-returns-5
-returns-5 c = let s = c .before .before .before .before .before .before .before in sym (goto-rule (s .args .inputs) (s .args .n) (s .args .body .now) (s .pre) (c .before .before .before .if4 .taken) (c .before .before .if5 .left) (rw (c .before .two-at .ensures .0) at (c .if6 .taken)))
+returns-5 c = let s = c .before .before .before .before .before .before .before in
+    sym (goto-rule (s .args .inputs) (s .args .n) (s .args .body .now) (s .pre) (c .before .before .before .if4 .taken)
+    (c .before .before .if5 .left) (rw (c .before .two-at .ensures .0) at (c .if6 .taken)))
 
 expr-reply-requires-2 : tie.Need-expr-reply-requires-2
 expr-reply-requires-2 c κs = search needs
 
 returns-6 : tie.Need-returns-6
-returns-6 c = let s = c .before .before .before .before .before .before .before .before in c .expr-reply2 .ensures ∙ sym (goto-expr (s .args .inputs) (s .args .n) (s .args .body .now) (s .pre) (c .before .before .before .before .if4 .taken) (c .before .before .before .if5 .left) (rw (c .before .before .two-at .ensures .0) at (c .before .if6 .left)))
+returns-6 c = let s = c .before .before .before .before .before .before .before .before in c .expr-reply2 .ensures
+    ∙ sym (goto-expr (s .args .inputs) (s .args .n) (s .args .body .now) (s .pre) (c .before .before .before .before .if4 .taken)
+    (c .before .before .before .if5 .left) (rw (c .before .before .two-at .ensures .0) at (c .before .if6 .left)))
 
 expr-reply-requires-3 : tie.Need-expr-reply-requires-3
 expr-reply-requires-3 c κs = search needs
 
 returns-7 : tie.Need-returns-7
-returns-7 c = let s = c .before .before .before .before .before .before in c .expr-reply3 .ensures ∙ sym (assume-expr (s .args .inputs) (s .args .n) (s .args .body .now) (s .pre) (c .before .if7 .taken))
+returns-7 c = let s = c .before .before .before .before .before .before in c .expr-reply3 .ensures
+    ∙ sym (assume-expr (s .args .inputs) (s .args .n) (s .args .body .now) (s .pre) (c .before .if7 .taken))
 
 expr-reply-requires-4 : tie.Need-expr-reply-requires-4
 expr-reply-requires-4 c κs = search needs
 
 returns-8 : tie.Need-returns-8
-returns-8 c = let s = c .before .before .before .before .before .before .before in c .expr-reply4 .ensures ∙ sym (assert-expr (s .args .inputs) (s .args .n) (s .args .body .now) (s .pre) (c .before .if8 .taken))
+returns-8 c = let s = c .before .before .before .before .before .before .before in c .expr-reply4 .ensures
+    ∙ sym (assert-expr (s .args .inputs) (s .args .n) (s .args .body .now) (s .pre) (c .before .if8 .taken))
 
 returns-9 : tie.Need-returns-9
-returns-9 c = let s = c .before .before .before .before .before .before in sym (unknown (s .args .inputs) (s .args .n) (s .args .body .now) (s .pre) (c .before .before .before .if1 .left) (c .before .if7 .left) (c .if8 .left) (c .before .before .if4 .left))
+returns-9 c = let s = c .before .before .before .before .before .before in
+    sym (unknown (s .args .inputs) (s .args .n) (s .args .body .now) (s .pre) (c .before .before .before .if1 .left) (c .before .if7 .left)
+    (c .if8 .left) (c .before .before .if4 .left))
 
 pub body-reply-spec : {M : Type 1} → statement M
 body-reply-spec =

@@ -14,7 +14,9 @@ add-t6 : tie.Need-add-t6
 add-t6 c = search needs
 
 returns-2 : tie.Need-returns-2
-returns-2 c = λ n ρ. rw (le-leb _ _ (c .before .if1 .left), lt-ltb _ _ (c .if2 .taken)) (ap {B = Move} (Go (c .before .before .args .t)) (add-one (c .before .before .args .r)))
+returns-2 c =
+    λ n ρ. rw (le-leb _ _ (c .before .if1 .left), lt-ltb _ _ (c .if2 .taken))
+    (ap {B = Move} (Go (c .before .before .args .t)) (add-one (c .before .before .args .r)))
 
 returns-3 : tie.Need-returns-3
 returns-3 c = λ n ρ. rw (le-leb _ _ (c .before .if1 .left), le-ltb _ _ (c .if2 .left))

@@ -26,7 +26,8 @@ module _ (c : tie.After-shared-slice-known Inv-loop μ-loop) where
   bytes : All Byte (c .before .args .table .now)
   bytes = all-at Byte (c .before .args .table .now) (λ i h. c .shared-slice-known .given i .fits)
 
-  is-loaded : Loaded (c .before .args .table .now) (headerInputs (c .before .args .table .now)) (listed (readTable (c .before .args .table .now)))
+  is-loaded : Loaded (c .before .args .table .now) (headerInputs (c .before .args .table .now))
+      (listed (readTable (c .before .args .table .now)))
   is-loaded = loaded (c .before .args .table .now) bytes (c .before .pre .1 .accepted)
 
   counted : length (listed (readTable (c .before .args .table .now))) ≡ c .before .args .n
@@ -42,7 +43,8 @@ loop-holds : tie.Need-loop-holds Inv-loop μ-loop
 loop-holds c =
     let s = c .before .before .before in
     let known = c .before .before in
-    start (s .args .table .now) (s .args .offsets .now) (s .args .n) (s .args .bound) (length (s .args .vals .now)) _ _ (is-loaded known) (counted known) (symbols known (s .args .vals .now) refl) (s .pre .1 .stored) (s .args .vals .now)
+    start (s .args .table .now) (s .args .offsets .now) (s .args .n) (s .args .bound) (length (s .args .vals .now)) _ _ (is-loaded known)
+    (counted known) (symbols known (s .args .vals .now) refl) (s .pre .1 .stored) (s .args .vals .now)
 
 mul-at : tie.Need-mul-at Inv-loop μ-loop
 mul-at c = omega (arith, c .before .before .before .before .before .pre .1 .room, few (c .before .before .before .before))
@@ -65,7 +67,9 @@ step-at-requires c κs =
       loop-test .taken,
       v .few,
       s .pre .0,
-      ap isGood (here (s .args .table .now) (s .args .offsets .now) (s .args .n) (s .args .bound) (length (loop .vals)) _ _ (is-loaded known) (counted known) (symbols known (loop .vals) (v .long)) (s .pre .1 .stored) (s .args .vals .now) (loop .i) (loop-test .taken) .good),
+      ap isGood (here (s .args .table .now) (s .args .offsets .now) (s .args .n) (s .args .bound) (length (loop .vals)) _ _
+          (is-loaded known) (counted known) (symbols known (loop .vals) (v .long)) (s .pre .1 .stored) (s .args .vals .now) (loop .i)
+          (loop-test .taken) .good),
     )
 
 enum-known-m : tie.Need-enum-known-m Inv-loop μ-loop
@@ -82,14 +86,19 @@ module _ (c : tie.After-known-told Inv-loop μ-loop) where
   abbrev left-vals : List ℕ
   left-vals = c .before .before .before .before .before .step-at .last .1 .1 .1 .1 .1 .1 .0
 
-  on : On (listed (readTable table)) (s .args .bound) (s .args .n) (s .args .vals .now) left-vals (c .before .before .before .before .before .before .before .before .before .loop .i) (c .before .before .before .before .before .before .before .before .before .loop .r) (c .before .m .given .0 .0) (c .before .m .given .0 .1 .0)
+  on : On (listed (readTable table)) (s .args .bound) (s .args .n) (s .args .vals .now) left-vals
+      (c .before .before .before .before .before .before .before .before .before .loop .i)
+      (c .before .before .before .before .before .before .before .before .before .loop .r) (c .before .m .given .0 .0)
+      (c .before .m .given .0 .1 .0)
   on =
       let known = c .before .before .before .before .before .before .before .before .before .before .before .before in
       let loop = c .before .before .before .before .before .before .before .before .before .loop in
       let loop-test = c .before .before .before .before .before .before .before .before .loop-test in
       let step-at = c .before .before .before .before .before .step-at in
       let v = loop .inv in
-      goes-on table (s .args .offsets .now) (s .args .n) (s .args .bound) (length (loop .vals)) _ _ (is-loaded known) (counted known) (symbols known (loop .vals) (v .long)) (s .pre .1 .stored) (s .args .vals .now) v (loop-test .taken) _ left-vals (step-at .ensures) (step-at .kept .1 .1 .1 .1 .1 .1 .0) _ _ (c .before .m .given .1)
+      goes-on table (s .args .offsets .now) (s .args .n) (s .args .bound) (length (loop .vals)) _ _ (is-loaded known) (counted known)
+      (symbols known (loop .vals) (v .long)) (s .pre .1 .stored) (s .args .vals .now) v (loop-test .taken) _ left-vals
+      (step-at .ensures) (step-at .kept .1 .1 .1 .1 .1 .1 .0) _ _ (c .before .m .given .1)
 
 loop-less : tie.Need-loop-less Inv-loop μ-loop
 loop-less c = on c .less
@@ -101,10 +110,17 @@ enum-known-m-2 : tie.Need-enum-known-m-2 Inv-loop μ-loop
 enum-known-m-2 c = search needs
 
 cast-t20 : tie.Need-cast-t20 Inv-loop μ-loop
-cast-t20 c = omega (arith, c .before .before .before .before .before .before .before .before .before .loop .inv .few, c .before .before .before .before .before .before .before .before .before .before .before .before .before .pre .0)
+cast-t20 c =
+    omega (
+      arith,
+      c .before .before .before .before .before .before .before .before .before .loop .inv .few,
+      c .before .before .before .before .before .before .before .before .before .before .before .before .before .pre .0,
+    )
 
 same-length : tie.Need-same-length Inv-loop μ-loop
-same-length c = c .before .before .before .before .before .step-at .kept .1 .1 .1 .1 .1 .1 .0 ∙ c .before .before .before .before .before .before .before .before .before .loop .inv .long
+same-length c =
+    c .before .before .before .before .before .step-at .kept .1 .1 .1 .1 .1 .1 .0
+    ∙ c .before .before .before .before .before .before .before .before .before .loop .inv .long
 
 returns : tie.Need-returns Inv-loop μ-loop
 returns c =
@@ -114,7 +130,9 @@ returns c =
     let loop-test = c .before .before .before .before .before .before .before .before .loop-test in
     let step-at = c .before .before .before .before .before .step-at in
     let v = loop .inv in
-    halts (s .args .table .now) (s .args .offsets .now) (s .args .n) (s .args .bound) (length (loop .vals)) _ _ (is-loaded known) (counted known) (symbols known (loop .vals) (v .long)) (s .pre .1 .stored) (s .args .vals .now) v (loop-test .taken) _ (step-at .last .1 .1 .1 .1 .1 .1 .0) (step-at .ensures) _ _ (c .before .m2 .given .1)
+    halts (s .args .table .now) (s .args .offsets .now) (s .args .n) (s .args .bound) (length (loop .vals)) _ _ (is-loaded known)
+    (counted known) (symbols known (loop .vals) (v .long)) (s .pre .1 .stored) (s .args .vals .now) v (loop-test .taken) _
+    (step-at .last .1 .1 .1 .1 .1 .1 .0) (step-at .ensures) _ _ (c .before .m2 .given .1)
 
 cast-t21 : tie.Need-cast-t21 Inv-loop μ-loop
 cast-t21 c = omega (arith, c .before .loop .inv .few, c .before .before .before .before .before .pre .0)
@@ -127,7 +145,8 @@ returns-2 c =
     let s = c .before .before .before .before .before in
     let known = c .before .before .before .before in
     let v = c .before .loop .inv in
-    end (s .args .table .now) (s .args .offsets .now) (s .args .n) (s .args .bound) (length (c .before .loop .vals)) _ _ (is-loaded known) (counted known) (symbols known (c .before .loop .vals) (v .long)) (s .pre .1 .stored) (s .args .vals .now) v (c .loop-test .left)
+    end (s .args .table .now) (s .args .offsets .now) (s .args .n) (s .args .bound) (length (c .before .loop .vals)) _ _ (is-loaded known)
+    (counted known) (symbols known (c .before .loop .vals) (v .long)) (s .pre .1 .stored) (s .args .vals .now) v (c .loop-test .left)
 
 pub run-from-spec : {M : Type 1} → statement M
 run-from-spec =

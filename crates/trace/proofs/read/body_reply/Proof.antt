@@ -16,7 +16,10 @@ shared-slice-read-kind : tie.Need-shared-slice-read-kind
 shared-slice-read-kind c = search needs
 
 returns : tie.Need-returns
-returns c = sym (assign-short (c .before .before .before .before .before .args .inputs + 4096) (σ (c .before .before .before .before .before)) (c .before .before .before .before .before .args .body .now) (c .before .before .before .before .before .pre .0) (c .before .if1 .taken) (c .if2 .taken))
+returns c =
+    sym (assign-short (c .before .before .before .before .before .args .inputs + 4096) (σ (c .before .before .before .before .before))
+    (c .before .before .before .before .before .args .body .now) (c .before .before .before .before .before .pre .0)
+    (c .before .if1 .taken) (c .if2 .taken))
 
 two-at-requires : tie.Need-two-at-requires
 two-at-requires c κs = search needs
@@ -26,7 +29,8 @@ returns-2 c =
     let start = c .before .before .before .before .before .before .before in
     let if1 = c .before .before .before .if1 in
     let if2 = c .before .before .if2 in
-    sym (assign-low (start .args .inputs + 4096) (σ start) (start .args .body .now) (start .pre .0) (if1 .taken) (if2 .left) (rw (c .before .two-at .ensures .0) at (c .if3 .taken)))
+    sym (assign-low (start .args .inputs + 4096) (σ start) (start .args .body .now) (start .pre .0) (if1 .taken) (if2 .left)
+    (rw (c .before .two-at .ensures .0) at (c .if3 .taken)))
 
 add-if4 : tie.Need-add-if4
 add-if4 c = search needs
@@ -37,7 +41,8 @@ returns-3 c =
     let if1 = c .before .before .before .before .if1 in
     let if2 = c .before .before .before .if2 in
     let two-at = c .before .before .two-at in
-    sym (assign-high (start .args .inputs + 4096) (σ start) (start .args .body .now) (start .pre .0) (if1 .taken) (if2 .left) (rw (two-at .ensures .0) at (c .before .if3 .left)) (rw (two-at .ensures .0) at (c .if4 .taken)))
+    sym (assign-high (start .args .inputs + 4096) (σ start) (start .args .body .now) (start .pre .0) (if1 .taken) (if2 .left)
+    (rw (two-at .ensures .0) at (c .before .if3 .left)) (rw (two-at .ensures .0) at (c .if4 .taken)))
 
 expr-reply-requires : tie.Need-expr-reply-requires
 expr-reply-requires c κs = search needs
@@ -49,12 +54,15 @@ returns-4 c =
     let if2 = c .before .before .before .before .if2 in
     let two-at = c .before .before .before .two-at in
     let if3 = c .before .before .if3 in
-    c .expr-reply .ensures ∙ sym (assign-expr (start .args .inputs + 4096) (σ start) (start .args .body .now) (start .pre .0) (if1 .taken) (if2 .left) (rw (two-at .ensures .0) at (if3 .left)) (rw (two-at .ensures .0) at (c .before .if4 .left)))
+    c .expr-reply .ensures ∙ sym (assign-expr (start .args .inputs + 4096) (σ start) (start .args .body .now) (start .pre .0) (if1 .taken)
+    (if2 .left) (rw (two-at .ensures .0) at (if3 .left)) (rw (two-at .ensures .0) at (c .before .if4 .left)))
 
 returns-5 : tie.Need-returns-5
 returns-5 c =
     let start = c .before .before .before .before .before .before in
-    sym (test-short (start .args .inputs + 4096) (σ start) (start .args .body .now) (start .pre .0) Assume (kind-assume (start .args .inputs + 4096) (σ start) (start .args .body .now) (start .pre .0) (c .before .if5 .taken)) (c .if6 .taken))
+    sym (test-short (start .args .inputs + 4096) (σ start) (start .args .body .now) (start .pre .0) Assume
+    (kind-assume (start .args .inputs + 4096) (σ start) (start .args .body .now) (start .pre .0) (c .before .if5 .taken))
+    (c .if6 .taken))
 
 expr-reply-requires-2 : tie.Need-expr-reply-requires-2
 expr-reply-requires-2 c κs = search needs
@@ -63,12 +71,15 @@ returns-6 : tie.Need-returns-6
 returns-6 c =
     let start = c .before .before .before .before .before .before .before in
     let if5 = c .before .before .if5 in
-    c .expr-reply2 .ensures ∙ sym (test-expr (start .args .inputs + 4096) (σ start) (start .args .body .now) (start .pre .0) Assume (kind-assume (start .args .inputs + 4096) (σ start) (start .args .body .now) (start .pre .0) (if5 .taken)) (c .before .if6 .left))
+    c .expr-reply2 .ensures ∙ sym (test-expr (start .args .inputs + 4096) (σ start) (start .args .body .now) (start .pre .0) Assume
+    (kind-assume (start .args .inputs + 4096) (σ start) (start .args .body .now) (start .pre .0) (if5 .taken)) (c .before .if6 .left))
 
 returns-7 : tie.Need-returns-7
 returns-7 c =
     let start = c .before .before .before .before .before .before .before in
-    sym (test-short (start .args .inputs + 4096) (σ start) (start .args .body .now) (start .pre .0) Assert (kind-assert (start .args .inputs + 4096) (σ start) (start .args .body .now) (start .pre .0) (c .before .if7 .taken)) (c .if8 .taken))
+    sym (test-short (start .args .inputs + 4096) (σ start) (start .args .body .now) (start .pre .0) Assert
+    (kind-assert (start .args .inputs + 4096) (σ start) (start .args .body .now) (start .pre .0) (c .before .if7 .taken))
+    (c .if8 .taken))
 
 expr-reply-requires-3 : tie.Need-expr-reply-requires-3
 expr-reply-requires-3 c κs = search needs
@@ -77,10 +88,14 @@ returns-8 : tie.Need-returns-8
 returns-8 c =
     let start = c .before .before .before .before .before .before .before .before in
     let if7 = c .before .before .if7 in
-    c .expr-reply3 .ensures ∙ sym (test-expr (start .args .inputs + 4096) (σ start) (start .args .body .now) (start .pre .0) Assert (kind-assert (start .args .inputs + 4096) (σ start) (start .args .body .now) (start .pre .0) (if7 .taken)) (c .before .if8 .left))
+    c .expr-reply3 .ensures ∙ sym (test-expr (start .args .inputs + 4096) (σ start) (start .args .body .now) (start .pre .0) Assert
+    (kind-assert (start .args .inputs + 4096) (σ start) (start .args .body .now) (start .pre .0) (if7 .taken)) (c .before .if8 .left))
 
 returns-9 : tie.Need-returns-9
-returns-9 c = sym (unknown (c .before .before .before .before .before .before .args .inputs + 4096) (σ (c .before .before .before .before .before .before)) (c .before .before .before .before .before .before .args .body .now) (c .before .before .before .before .before .before .pre .0) (c .before .before .if1 .left) (c .before .if5 .left) (c .if7 .left))
+returns-9 c =
+    sym (unknown (c .before .before .before .before .before .before .args .inputs + 4096)
+    (σ (c .before .before .before .before .before .before)) (c .before .before .before .before .before .before .args .body .now)
+    (c .before .before .before .before .before .before .pre .0) (c .before .before .if1 .left) (c .before .if5 .left) (c .if7 .left))
 
 pub body-reply-spec : {M : Type 1} → statement M
 body-reply-spec =

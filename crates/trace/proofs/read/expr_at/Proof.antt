@@ -22,7 +22,8 @@ add-kind : tie.Need-add-kind
 add-kind c = search needs
 
 shared-slice-read-kind : tie.Need-shared-slice-read-kind
-shared-slice-read-kind c = let s = c .before .before in omega (arith, s .pre .0, s .pre .1, behind-the-kind (getD (s .args .trace .now) (s .args .at + 2) 0))
+shared-slice-read-kind c = let s = c .before .before in
+    omega (arith, s .pre .0, s .pre .1, behind-the-kind (getD (s .args .trace .now) (s .args .at + 2) 0))
 
 expr-start-requires : tie.Need-expr-start-requires
 expr-start-requires c κs = search needs
@@ -31,7 +32,8 @@ rest-of-requires : tie.Need-rest-of-requires
 rest-of-requires c κs = search needs
 
 returns : tie.Need-returns
-returns c = let s = c .before .before .before .before in c .rest-of .ensures ∙ ap (restOf (s .args .trace .now) (s .args .at)) (c .before .expr-start .ensures)
+returns c = let s = c .before .before .before .before in c .rest-of .ensures
+    ∙ ap (restOf (s .args .trace .now) (s .args .at)) (c .before .expr-start .ensures)
 
 pub expr-at-spec : {M : Type 1} → statement M
 expr-at-spec =

@@ -7,7 +7,8 @@ use borrow.Author.Needs.{needs}
 use Rattle.trace.proofs.read.learn.Statement.{statement}
 use Rattle.trace.proofs.read.learn.Tie as tie
 
-held : (c : tie.Start) → Held (c .args .inputs + 4096) (seen (c .args .inputs) (c .args .least) (c .args .assigned .now)) (c .args .trace .now) (c .args .at)
+held : (c : tie.Start) → Held (c .args .inputs + 4096) (seen (c .args .inputs) (c .args .least) (c .args .assigned .now))
+    (c .args .trace .now) (c .args .at)
 held c = held-at _ _ _ _ (c .pre .3)
 
 add-if1 : tie.Need-add-if1
@@ -23,7 +24,14 @@ two-at-requires : tie.Need-two-at-requires
 two-at-requires c κs = omega (arith, held (c .before .before .before .before) .assigns (c .if1 .taken) .2)
 
 slice-write-assigned : tie.Need-slice-write-assigned
-slice-write-assigned c = omega (arith, held (c .before .before .before .before .before) .assigns (c .before .if1 .taken) .1, c .two-at .ensures .0, c .before .before .before .before .before .pre .1, c .before .before .before .before .before .pre .2)
+slice-write-assigned c =
+    omega (
+      arith,
+      held (c .before .before .before .before .before) .assigns (c .before .if1 .taken) .1,
+      c .two-at .ensures .0,
+      c .before .before .before .before .before .pre .1,
+      c .before .before .before .before .before .pre .2,
+    )
 
 add-result : tie.Need-add-result
 add-result c = search needs
@@ -32,10 +40,14 @@ same-length : tie.Need-same-length
 same-length c = search needs
 
 returns : tie.Need-returns
-returns c = learns-symbol (held (c .before .before .before .before .before)) (c .before .before .before .before .before .args .least) (c .before .before .before .before .before .args .assigned .now) _ (c .before .if1 .taken) (c .two-at .ensures .0)
+returns c =
+    learns-symbol (held (c .before .before .before .before .before)) (c .before .before .before .before .before .args .least)
+    (c .before .before .before .before .before .args .assigned .now) _ (c .before .if1 .taken) (c .two-at .ensures .0)
 
 returns-2 : tie.Need-returns-2
-returns-2 c = learns-nothing (held (c .before .before .before .before)) (c .before .before .before .before .args .least) (c .before .before .before .before .args .assigned .now) (c .if1 .left)
+returns-2 c =
+    learns-nothing (held (c .before .before .before .before)) (c .before .before .before .before .args .least)
+    (c .before .before .before .before .args .assigned .now) (c .if1 .left)
 
 pub learn-spec : {M : Type 1} → statement M
 learn-spec =

@@ -17,7 +17,8 @@ use Rattle.trace.proofs.read.read_records.Statement.{statement}
 use Rattle.trace.proofs.read.read_records.Tie as tie
 
 abbrev Inv-loop : tie.InvT-loop
-Inv-loop trace inputs n offsets₀ assigned₀ at₀ k₀ least₀ offsets assigned at k least = Walking trace inputs n offsets₀ offsets assigned at k least
+Inv-loop trace inputs n offsets₀ assigned₀ at₀ k₀ least₀ offsets assigned at k least =
+    Walking trace inputs n offsets₀ offsets assigned at k least
 
 abbrev μ-loop : tie.MeasureT-loop
 μ-loop trace inputs n offsets₀ assigned₀ at₀ k₀ least₀ offsets assigned at k least = n - k
@@ -32,7 +33,9 @@ same-length : tie.Need-same-length Inv-loop μ-loop
 same-length c = Records.long _ _ _ _ _ _ (c .before .before .before .loop .inv .walk)
 
 returns : tie.Need-returns Inv-loop μ-loop
-returns c = Records.refuse _ _ _ _ _ _ (c .before .before .before .loop .inv .walk) (c .before .before .loop-test .taken) 5 (record-unframed (stmt _ _) _ (sym (c .before .frame-at .ensures) ∙ c .if1 .taken))
+returns c =
+    Records.refuse _ _ _ _ _ _ (c .before .before .before .loop .inv .walk) (c .before .before .loop-test .taken) 5
+    (record-unframed (stmt _ _) _ (sym (c .before .frame-at .ensures) ∙ c .if1 .taken))
 
 -- the record is there
 module _ (c : tie.Else1 Inv-loop μ-loop) where
@@ -80,35 +83,64 @@ slice-aggregate-body-reply c = sym (c .before .before .before .before .before .l
 
 body-reply-requires : tie.Need-body-reply-requires Inv-loop μ-loop
 body-reply-requires c κs =
-    let r = c .before .before in
-    (cut-long (one r) (s r) (at r) (len r) (r .before .frame-at .ensures) (r .if1 .left), r .before .before .before .before .before .before .pre .2)
+    let r = c .before .before in (
+      cut-long (one r) (s r) (at r) (len r) (r .before .frame-at .ensures) (r .if1 .left),
+      r .before .before .before .before .before .before .pre .2,
+    )
 
 same-length-2 : tie.Need-same-length-2 Inv-loop μ-loop
 same-length-2 c = Records.long _ _ _ _ _ _ (c .before .before .before .before .before .before .before .loop .inv .walk)
 
 returns-2 : tie.Need-returns-2 Inv-loop μ-loop
-returns-2 c = Records.refuse _ _ _ _ _ _ (c .before .before .before .before .before .before .before .loop .inv .walk) (c .before .before .before .before .before .before .loop-test .taken) _ (cut (c .before .before .before .before) ∙ reply-bad _ _ (c .before .body-reply .ensures) (c .if2 .taken))
+returns-2 c =
+    Records.refuse _ _ _ _ _ _ (c .before .before .before .before .before .before .before .loop .inv .walk)
+    (c .before .before .before .before .before .before .loop-test .taken) _ (cut (c .before .before .before .before)
+    ∙ reply-bad _ _ (c .before .body-reply .ensures) (c .if2 .taken))
 
 -- and holds a statement
-statement-there : (c : tie.Else2 Inv-loop μ-loop) → (x : Stmt) × (recordOf (one (c .before .before .before .before)) (drop (at (c .before .before .before .before)) (s (c .before .before .before .before))) ≡ Good x)
-statement-there c = let g = reply-good _ _ (stmt-low _ _ _) (c .before .body-reply .ensures) (c .if2 .left) in (g .0, cut (c .before .before .before .before) ∙ g .1)
+statement-there : (c : tie.Else2 Inv-loop μ-loop)
+    → (x : Stmt) × (recordOf (one (c .before .before .before .before))
+    (drop (at (c .before .before .before .before)) (s (c .before .before .before .before))) ≡ Good x)
+statement-there c = let g = reply-good _ _ (stmt-low _ _ _) (c .before .body-reply .ensures) (c .if2 .left) in
+    (g .0, cut (c .before .before .before .before) ∙ g .1)
 
 cast-offsets : tie.Need-cast-offsets Inv-loop μ-loop
-cast-offsets c = omega (arith, c .before .before .before .before .before .before .before .loop .inv .walk .inside, c .before .before .before .before .before .before .before .before .before .before .pre .1)
+cast-offsets c =
+    omega (
+      arith,
+      c .before .before .before .before .before .before .before .loop .inv .walk .inside,
+      c .before .before .before .before .before .before .before .before .before .before .pre .1,
+    )
 
 mul-offsets : tie.Need-mul-offsets Inv-loop μ-loop
-mul-offsets c = omega (arith, c .before .before .before .before .before .before .before .loop .inv .walk .few, c .before .before .before .before .before .before .before .before .before .before .pre .3, c .before .before .before .before .before .before .before .before .before .before .good)
+mul-offsets c =
+    omega (
+      arith,
+      c .before .before .before .before .before .before .before .loop .inv .walk .few,
+      c .before .before .before .before .before .before .before .before .before .before .pre .3,
+      c .before .before .before .before .before .before .before .before .before .before .good,
+    )
 
 slice-write-offsets : tie.Need-slice-write-offsets Inv-loop μ-loop
-slice-write-offsets c = omega (arith, Records.long _ _ _ _ _ _ (c .before .before .before .before .before .before .before .loop .inv .walk), c .before .before .before .before .before .before .before .before .before .before .pre .3)
+slice-write-offsets c =
+    omega (
+      arith,
+      Records.long _ _ _ _ _ _ (c .before .before .before .before .before .before .before .loop .inv .walk),
+      c .before .before .before .before .before .before .before .before .before .before .pre .3,
+    )
 
 slice-aggregate-learn : tie.Need-slice-aggregate-learn Inv-loop μ-loop
 slice-aggregate-learn c = sym (c .before .before .before .before .before .before .before .before .loop .inv .long)
 
 learn-requires : tie.Need-learn-requires Inv-loop μ-loop
 learn-requires c κs =
-    let i = c .before .before .before .before .before .before .before .before .loop .inv in
-    (omega (arith, i .walk .inside, c .before .before .before .before .before .before .before .before .before .before .before .pre .1), c .before .before .before .before .before .before .before .before .before .before .before .pre .2, i .long, ap isGood (statement-there (c .before) .1))
+    let i = c .before .before .before .before .before .before .before .before .loop .inv in (
+      omega (arith, i .walk .inside, c .before .before .before .before .before .before .before .before .before .before .before .pre .1),
+      c .before .before .before .before .before .before .before .before .before .before .before .pre .2,
+      i .long,
+      ap isGood
+          (statement-there (c .before) .1),
+    )
 
 add-at : tie.Need-add-at Inv-loop μ-loop
 add-at c = omega (arith, inside (c .before .before .before .before .before .before .before))
@@ -126,7 +158,9 @@ loop-again : tie.Need-loop-again Inv-loop μ-loop
 loop-again c =
     let r = c .before .before .before .before .before .before .before in
     let x = statement-there (c .before .before .before) in
-    on _ _ _ _ (r .before .before .before .before .before .before .pre .2) (r .before .before .before .loop .inv) (r .before .before .loop-test .taken) (x .0) (x .1) (len r) (r .before .frame-at .ensures) (inside r) _ (c .before .learn .ensures .1) _ (c .before .learn .ensures .0)
+    on _ _ _ _ (r .before .before .before .before .before .before .pre .2) (r .before .before .before .loop .inv)
+    (r .before .before .loop-test .taken) (x .0) (x .1) (len r) (r .before .frame-at .ensures) (inside r) _
+    (c .before .learn .ensures .1) _ (c .before .learn .ensures .0)
 
 same-length-3 : tie.Need-same-length-3 Inv-loop μ-loop
 same-length-3 c = Records.long _ _ _ _ _ _ (c .before .before .loop .inv .walk)

@@ -28,7 +28,14 @@ loop-holds : tie.Need-loop-holds Inv-loop μ-loop
 loop-holds c = start (listed (readTrace (c .before .before .before .args .trace .now))) (c .before .before .before .args .cells .now)
 
 mul-at : tie.Need-mul-at Inv-loop μ-loop
-mul-at c = omega (arith, c .loop-test .taken, counted (c .before .before .before .before .before), is-loaded (c .before .before .before .before .before) .few)
+mul-at c =
+    omega (
+      arith,
+      c .loop-test .taken,
+      counted (c .before .before .before .before .before),
+      is-loaded
+          (c .before .before .before .before .before) .few,
+    )
 
 shared-slice-read-at : tie.Need-shared-slice-read-at Inv-loop μ-loop
 shared-slice-read-at c = omega (arith, c .before .loop-test .taken, c .before .before .before .before .before .before .pre .0 .room)
@@ -40,14 +47,27 @@ step-at-requires : tie.Need-step-at-requires Inv-loop μ-loop
 step-at-requires c κs =
     let start = c .before .before .before .before .before .before .before in
     let loop = c .before .before .before .loop in
-    let loop-test = c .before .before .loop-test in
-    (omega (arith, c .before .shared-slice-known3 .given (loop .k)), loop .inv .long ∙ start .pre .1, ap isGood (here (start .args .trace .now) (start .args .offsets .now) (start .args .n) _ (is-loaded start) (start .pre .0 .count) (start .pre .0 .stored) (loop .k) (loop-test .taken) .good))
+    let loop-test = c .before .before .loop-test in (
+      omega (arith, c .before .shared-slice-known3 .given (loop .k)),
+      loop .inv .long
+          ∙ start .pre .1,
+      ap isGood (here (start .args .trace .now) (start .args .offsets .now) (start .args .n) _ (is-loaded start)
+          (start .pre .0 .count) (start .pre .0 .stored) (loop .k) (loop-test .taken) .good),
+    )
 
 enum-told : tie.Need-enum-told Inv-loop μ-loop
 enum-told c = search needs
 
 add-k : tie.Need-add-k Inv-loop μ-loop
-add-k c = omega (arith, c .before .before .before .before .before .before .before .loop-test .taken, counted (c .before .before .before .before .before .before .before .before .before .before .before .before), is-loaded (c .before .before .before .before .before .before .before .before .before .before .before .before) .few)
+add-k c =
+    omega (
+      arith,
+      c .before .before .before .before .before .before .before .loop-test .taken,
+      counted
+          (c .before .before .before .before .before .before .before .before .before .before .before .before),
+      is-loaded
+          (c .before .before .before .before .before .before .before .before .before .before .before .before) .few,
+    )
 
 loop-less : tie.Need-loop-less Inv-loop μ-loop
 loop-less c = omega (arith, c .before .before .before .before .before .before .before .loop-test .taken)
@@ -58,13 +78,17 @@ loop-again c =
     let loop = c .before .before .before .before .before .before .before .before .loop in
     let loop-test = c .before .before .before .before .before .before .before .loop-test in
     let step-at = c .before .before .before .before .step-at in
-    goes-on (start .args .trace .now) (start .args .offsets .now) (start .args .n) _ (is-loaded start) (start .pre .0 .count) (start .pre .0 .stored) (start .args .cells .now) (loop .inv) (loop-test .taken) _ (step-at .last .1 .1 .0) (step-at .ensures) (step-at .kept .1 .1 .0) (c .enum-told .given .1)
+    goes-on (start .args .trace .now) (start .args .offsets .now) (start .args .n) _ (is-loaded start) (start .pre .0 .count)
+    (start .pre .0 .stored) (start .args .cells .now) (loop .inv) (loop-test .taken) _ (step-at .last .1 .1 .0) (step-at .ensures)
+    (step-at .kept .1 .1 .0) (c .enum-told .given .1)
 
 enum-known-m : tie.Need-enum-known-m Inv-loop μ-loop
 enum-known-m c = search needs
 
 same-length : tie.Need-same-length Inv-loop μ-loop
-same-length c = c .before .before .before .before .before .step-at .kept .1 .1 .0 ∙ c .before .before .before .before .before .before .before .before .before .loop .inv .long
+same-length c =
+    c .before .before .before .before .before .step-at .kept .1 .1 .0
+    ∙ c .before .before .before .before .before .before .before .before .before .loop .inv .long
 
 returns : tie.Need-returns Inv-loop μ-loop
 returns c =
@@ -72,7 +96,9 @@ returns c =
     let loop = c .before .before .before .before .before .before .before .before .before .loop in
     let loop-test = c .before .before .before .before .before .before .before .before .loop-test in
     let step-at = c .before .before .before .before .before .step-at in
-    halts (start .args .trace .now) (start .args .offsets .now) (start .args .n) _ (is-loaded start) (start .pre .0 .count) (start .pre .0 .stored) (start .args .cells .now) (loop .inv) (loop-test .taken) _ (step-at .last .1 .1 .0) (step-at .ensures) _ _ (c .before .m .given .1)
+    halts (start .args .trace .now) (start .args .offsets .now) (start .args .n) _ (is-loaded start) (start .pre .0 .count)
+    (start .pre .0 .stored) (start .args .cells .now) (loop .inv) (loop-test .taken) _ (step-at .last .1 .1 .0) (step-at .ensures) _ _
+    (c .before .m .given .1)
 
 same-length-2 : tie.Need-same-length-2 Inv-loop μ-loop
 same-length-2 c = c .before .loop .inv .long

@@ -28,13 +28,22 @@ mul-cells : tie.Need-mul-cells
 mul-cells c = search needs
 
 slice-write-cells : tie.Need-slice-write-cells
-slice-write-cells c = omega (arith, held (c .before .before .before .before .before .before .before) .assigns (c .before .if1 .taken) .1, c .two-at .ensures .0, c .before .before .before .before .before .before .before .pre .1)
+slice-write-cells c =
+    omega (
+      arith,
+      held (c .before .before .before .before .before .before .before) .assigns (c .before .if1 .taken) .1,
+      c .two-at .ensures .0,
+      c .before .before .before .before .before .before .before .pre .1,
+    )
 
 same-length : tie.Need-same-length
 same-length c = search needs
 
 returns : tie.Need-returns
-returns c = assign-moves (held (c .before .before .before .before .before .before .before)) (c .before .before .before .before .before .before .before .args .cells .now) _ (c .before .before .before .value-at .ensures) (c .before .before .before .before .before .before .before .pre .1) _ (c .before .if1 .taken) (c .two-at .ensures .0)
+returns c =
+    assign-moves (held (c .before .before .before .before .before .before .before))
+    (c .before .before .before .before .before .before .before .args .cells .now) _ (c .before .before .before .value-at .ensures)
+    (c .before .before .before .before .before .before .before .pre .1) _ (c .before .if1 .taken) (c .two-at .ensures .0)
 
 add-two-at-2 : tie.Need-add-two-at-2
 add-two-at-2 c = search needs
@@ -52,13 +61,20 @@ same-length-2 : tie.Need-same-length-2
 same-length-2 c = search needs
 
 returns-2 : tie.Need-returns-2
-returns-2 c = test-fails (held (c .before .before .before .before .before .before .before .before .before)) (c .before .before .before .before .before .before .before .before .before .args .cells .now) _ (c .before .before .before .before .before .value-at .ensures) _ _ (c .before .before .before .if1 .left) (c .before .before .if2 .taken) (c .before .two-at2 .ensures .0) (c .failed .ensures)
+returns-2 c =
+    test-fails (held (c .before .before .before .before .before .before .before .before .before))
+    (c .before .before .before .before .before .before .before .before .before .args .cells .now) _
+    (c .before .before .before .before .before .value-at .ensures) _ _ (c .before .before .before .if1 .left)
+    (c .before .before .if2 .taken) (c .before .two-at2 .ensures .0) (c .failed .ensures)
 
 same-length-3 : tie.Need-same-length-3
 same-length-3 c = search needs
 
 returns-3 : tie.Need-returns-3
-returns-3 c = test-holds (held (c .before .before .before .before .before .before .before)) (c .before .before .before .before .before .before .before .args .cells .now) _ (c .before .before .before .value-at .ensures) (c .before .if1 .left) (c .if2 .left)
+returns-3 c =
+    test-holds (held (c .before .before .before .before .before .before .before))
+    (c .before .before .before .before .before .before .before .args .cells .now) _ (c .before .before .before .value-at .ensures)
+    (c .before .if1 .left) (c .if2 .left)
 
 pub step-at-spec : {M : Type 1} → statement M
 step-at-spec =

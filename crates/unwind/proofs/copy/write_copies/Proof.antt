@@ -19,7 +19,8 @@ Inv-loop table offsets n bound names₀ out₀ r₀ g₀ names out r g = InCopie
 abbrev μ-loop : tie.MeasureT-loop
 μ-loop table offsets n bound names₀ out₀ r₀ g₀ names out r g = bound + 1 - r
 
-count-is : (c : tie.After-shared-slice-known Inv-loop μ-loop) → length (listed (readTable (c .before .args .table .now))) ≡ c .before .args .n
+count-is : (c : tie.After-shared-slice-known Inv-loop μ-loop) → length (listed (readTable (c .before .args .table .now)))
+    ≡ c .before .args .n
 count-is c = counted _ _ _ (all-at Byte (c .before .args .table .now) (λ i h. c .shared-slice-known .given i .fits)) (c .before .pre .2)
 
 loop-holds : tie.Need-loop-holds Inv-loop μ-loop
@@ -32,11 +33,23 @@ write-copy-requires c κs =
     let loop = c .before .before .before .loop in
     let loop-test = c .before .before .loop-test in
     let v = loop .inv in
-    let h = loop-test .taken in
-    (h, pre .0, fresh-fits _ _ _ _ _ h (v .fresh) (pre .1), pre .2, omega (arith, v .wide, pre .3), copies-room (count-is known) v h (pre .4))
+    let h = loop-test .taken in (
+      h,
+      pre .0,
+      fresh-fits _ _ _ _ _ h (v .fresh) (pre .1),
+      pre .2,
+      omega (arith, v .wide, pre .3),
+      copies-room (count-is known) v h
+          (pre .4),
+    )
 
 add-r : tie.Need-add-r Inv-loop μ-loop
-add-r c = omega (arith, c .before .before .before .before .before .before .before .loop-test .taken, c .before .before .before .before .before .before .before .before .before .before .before .before .before .pre .0)
+add-r c =
+    omega (
+      arith,
+      c .before .before .before .before .before .before .before .loop-test .taken,
+      c .before .before .before .before .before .before .before .before .before .before .before .before .before .pre .0,
+    )
 
 loop-less : tie.Need-loop-less Inv-loop μ-loop
 loop-less c = omega (arith, c .before .before .before .before .before .before .before .loop-test .taken)

@@ -58,11 +58,26 @@ write-place-requires c κs =
     let shared-slice-known3 = c .before .before .shared-slice-known3 in
     let v = loop .inv in
     let h = loop-test .taken in
-    let o = bytes known in
-    (omega (arith, shared-slice-known3 .given (loop .i)), n-few known, h, pre .0, pre .1, omega (arith, v .fresh, pre .2), readable _ _ _ o (pre .3) v (pre .4) h, room-here _ _ _ o (pre .3) v (pre .4) h (pre .5))
+    let o = bytes known in (
+      omega (arith, shared-slice-known3 .given (loop .i)),
+      n-few known,
+      h,
+      pre .0,
+      pre .1,
+      omega (arith, v .fresh, pre .2),
+      readable _ _ _ o
+          (pre .3) v (pre .4) h,
+      room-here _ _ _ o (pre .3) v (pre .4) h (pre .5),
+    )
 
 add-i : tie.Need-add-i Inv-loop μ-loop
-add-i c = omega (arith, c .before .before .before .before .before .before .before .before .loop-test .taken, n-few (c .before .before .before .before .before .before .before .before .before .before .before .before .before))
+add-i c =
+    omega (
+      arith,
+      c .before .before .before .before .before .before .before .before .loop-test .taken,
+      n-few
+          (c .before .before .before .before .before .before .before .before .before .before .before .before .before),
+    )
 
 loop-less : tie.Need-loop-less Inv-loop μ-loop
 loop-less c = omega (arith, c .before .before .before .before .before .before .before .before .loop-test .taken)
@@ -74,7 +89,8 @@ loop-again c =
     let loop = c .before .before .before .before .before .before .before .before .before .loop in
     let loop-test = c .before .before .before .before .before .before .before .before .loop-test in
     let write-place = c .before .before .before .before .write-place in
-    place-on _ _ _ (bytes known) (pre .3) (loop .inv) (pre .4) (loop-test .taken) _ _ _ (write-place .kept .1 .1 .1 .1 .1 .1 .0) (write-place .ensures)
+    place-on _ _ _ (bytes known) (pre .3) (loop .inv) (pre .4) (loop-test .taken) _ _ _ (write-place .kept .1 .1 .1 .1 .1 .1 .0)
+    (write-place .ensures)
 
 add-put-exit : tie.Need-add-put-exit Inv-loop μ-loop
 add-put-exit c = omega (arith, n-few (c .before .before .before .before .before))
@@ -95,19 +111,37 @@ mul-put-exit-2 : tie.Need-mul-put-exit-2 Inv-loop μ-loop
 mul-put-exit-2 c = omega (arith, end-little (c .before .before .before .before .before))
 
 put-exit-requires : tie.Need-put-exit-requires Inv-loop μ-loop
-put-exit-requires c κs = let s = c .before .before .before .before .before .before .before in (omega (arith, exit-little (c .before .before .before .before .before .before)), omega (arith, end-little (c .before .before .before .before .before .before)), exit-room (c .before .before .loop .inv) (count-is (c .before .before .before .before .before .before)) (c .before .loop-test .left) (s .pre .5))
+put-exit-requires c κs = let s = c .before .before .before .before .before .before .before in (
+  omega (arith, exit-little (c .before .before .before .before .before .before)),
+  omega
+      (arith, end-little (c .before .before .before .before .before .before)),
+  exit-room (c .before .before .loop .inv)
+      (count-is (c .before .before .before .before .before .before)) (c .before .loop-test .left) (s .pre .5),
+)
 
 add-t23 : tie.Need-add-t23 Inv-loop μ-loop
-add-t23 c = omega (arith, c .before .before .before .before .before .loop .inv .fresh, c .before .before .before .before .before .before .before .before .before .before .pre .2, c .before .before .before .before .before .loop .inv .inside, count-is (c .before .before .before .before .before .before .before .before .before))
+add-t23 c =
+    omega (
+      arith,
+      c .before .before .before .before .before .loop .inv .fresh,
+      c .before .before .before .before .before .before .before .before .before .before .pre .2,
+      c .before .before .before .before .before .loop .inv .inside,
+      count-is
+          (c .before .before .before .before .before .before .before .before .before),
+    )
 
 same-length : tie.Need-same-length Inv-loop μ-loop
 same-length c = c .before .before .before .before .before .loop .inv .wide
 
 same-length-2 : tie.Need-same-length-2 Inv-loop μ-loop
-same-length-2 c = c .before .before .put-exit .kept .1 .1 .1 .1 .0 ∙ ahead-length (c .before .before .before .before .before .loop .inv .wrote)
+same-length-2 c =
+    c .before .before .put-exit .kept .1 .1 .1 .1 .0 ∙ ahead-length (c .before .before .before .before .before .loop .inv .wrote)
 
 returns : tie.Need-returns Inv-loop μ-loop
-returns c = copy-end (c .before .before .before .before .before .loop .inv) (count-is (c .before .before .before .before .before .before .before .before .before)) (c .before .before .before .before .loop-test .left) _ _ refl refl _ _ (c .before .before .put-exit .ensures)
+returns c =
+    copy-end (c .before .before .before .before .before .loop .inv)
+    (count-is (c .before .before .before .before .before .before .before .before .before))
+    (c .before .before .before .before .loop-test .left) _ _ refl refl _ _ (c .before .before .put-exit .ensures)
 
 pub write-copy-spec : {M : Type 1} → statement M
 write-copy-spec =

@@ -5,7 +5,8 @@ use mathlib.Core.Path.{refl}
 use lib.ListN.{length}
 use borrow.Author.Needs.{needs}
 use Rattle.table.proofs.Held.{Held, held-at}
-use Rattle.unwind.proofs.Writing.{place-little, part-whole, forward-room, forward-written, back-room, back-written, bound-room, bound-written}
+use Rattle.unwind.proofs.Writing.{place-little, part-whole, forward-room, forward-written, back-room, back-written, bound-room}
+use Rattle.unwind.proofs.Writing.{bound-written}
 use Rattle.unwind.proofs.copy.write_jump.Statement.{statement}
 use Rattle.unwind.proofs.copy.write_jump.Tie as tie
 
@@ -16,13 +17,24 @@ here : (c : tie.Start) → c .args .r * (c .args .n + 1) + c .args .i ≤ 263424
 here c = place-little _ _ _ (c .pre .1) (omega (arith, c .pre .2)) (omega (arith, c .pre .3, c .pre .4))
 
 target : (c : tie.After-two-at) → c .two-at .result ≤ c .before .before .before .before .before .args .n
-target c = omega (arith, held (c .before .before .before .before .before) .jumps (c .before .before .before .before .before .pre .8) .1, c .two-at .ensures .0)
+target c =
+    omega (
+      arith,
+      held (c .before .before .before .before .before) .jumps (c .before .before .before .before .before .pre .8) .1,
+      c .two-at .ensures .0,
+    )
 
-goal : (c : tie.After-two-at) → c .before .before .before .before .before .args .r * (c .before .before .before .before .before .args .n + 1) + c .two-at .result ≤ 263424
-goal c = place-little _ _ _ (c .before .before .before .before .before .pre .1) (target c) (omega (arith, c .before .before .before .before .before .pre .3, c .before .before .before .before .before .pre .4))
+goal : (c : tie.After-two-at) → c .before .before .before .before .before .args .r
+    * (c .before .before .before .before .before .args .n + 1) + c .two-at .result ≤ 263424
+goal c =
+    place-little _ _ _ (c .before .before .before .before .before .pre .1) (target c)
+    (omega (arith, c .before .before .before .before .before .pre .3, c .before .before .before .before .before .pre .4))
 
-next-goal : (c : tie.Then2) → (c .before .before .before .before .before .before .before .args .r + 1) * (c .before .before .before .before .before .before .before .args .n + 1) + c .before .before .two-at .result ≤ 263424
-next-goal c = place-little _ _ _ (c .before .before .before .before .before .before .before .pre .1) (target (c .before .before)) (omega (arith, c .if2 .taken, c .before .before .before .before .before .before .before .pre .4))
+next-goal : (c : tie.Then2) → (c .before .before .before .before .before .before .before .args .r + 1)
+    * (c .before .before .before .before .before .before .before .args .n + 1) + c .before .before .two-at .result ≤ 263424
+next-goal c =
+    place-little _ _ _ (c .before .before .before .before .before .before .before .pre .1) (target (c .before .before))
+    (omega (arith, c .if2 .taken, c .before .before .before .before .before .before .before .pre .4))
 
 expr-at-requires : tie.Need-expr-at-requires
 expr-at-requires c κs = let h = held (c .before .before .before) in (h .whole, h .starts)
@@ -57,8 +69,11 @@ put-jump-requires c κs =
     let expr-at = c .before .before .before .expr-at in
     let after-two-at = c .before .before in (
       omega (arith, here s),
-      part-whole (s .args .names .now) (held s) (s .args .bound) (s .args .r) (s .args .i) (s .args .f .control) (s .args .f .next) _ (expr-at .ensures),
-      forward-room (s .args .names .now) (held s) (s .args .bound) (s .args .r) (s .args .i) (s .args .f .control) (s .args .f .next) _ (expr-at .ensures) (s .pre .8) (after-two-at .two-at .result) (after-two-at .two-at .ensures .0) (c .before .if1 .taken) _ _ (s .pre .7),
+      part-whole (s .args .names .now) (held s) (s .args .bound) (s .args .r) (s .args .i) (s .args .f .control) (s .args .f .next) _
+          (expr-at .ensures),
+      forward-room (s .args .names .now) (held s) (s .args .bound) (s .args .r) (s .args .i) (s .args .f .control) (s .args .f .next) _
+          (expr-at .ensures) (s .pre .8) (after-two-at .two-at .result) (after-two-at .two-at .ensures .0) (c .before .if1 .taken) _ _
+          (s .pre .7),
       omega (arith, goal after-two-at),
     )
 
@@ -71,10 +86,18 @@ same-length c = search needs
 returns : tie.Need-returns
 returns c =
     let s = c .before .before .before .before .before .before .before .before .before .before in
-    forward-written (s .args .names .now) (held s) (s .args .bound) (s .args .r) (s .args .i) (s .args .f .control) (s .args .f .next) _ (c .before .before .before .before .before .before .expr-at .ensures) (s .pre .8) (c .before .before .before .before .before .two-at .result) (c .before .before .before .before .before .two-at .ensures .0) (c .before .before .before .before .if1 .taken) _ refl _ refl (c .before .before .put-jump .ensures)
+    forward-written (s .args .names .now) (held s) (s .args .bound) (s .args .r) (s .args .i) (s .args .f .control) (s .args .f .next) _
+    (c .before .before .before .before .before .before .expr-at .ensures) (s .pre .8)
+    (c .before .before .before .before .before .two-at .result) (c .before .before .before .before .before .two-at .ensures .0)
+    (c .before .before .before .before .if1 .taken) _ refl _ refl (c .before .before .put-jump .ensures)
 
 add-goal-3 : tie.Need-add-goal-3
-add-goal-3 c = omega (arith, c .before .before .before .before .before .before .before .pre .3, c .before .before .before .before .before .before .before .pre .4)
+add-goal-3 c =
+    omega (
+      arith,
+      c .before .before .before .before .before .before .before .pre .3,
+      c .before .before .before .before .before .before .before .pre .4,
+    )
 
 add-goal-4 : tie.Need-add-goal-4
 add-goal-4 c = search needs
@@ -92,8 +115,10 @@ put-jump-requires-2 c κs =
     let two-at = c .before .before .before .two-at in
     let if1 = c .before .before .if1 in (
       omega (arith, here s),
-      part-whole (s .args .names .now) (held s) (s .args .bound) (s .args .r) (s .args .i) (s .args .f .control) (s .args .f .next) _ (expr-at .ensures),
-      back-room (s .args .names .now) (held s) (s .args .bound) (s .args .r) (s .args .i) (s .args .f .control) (s .args .f .next) _ (expr-at .ensures) (s .pre .8) (two-at .result) (two-at .ensures .0) (if1 .left) (c .before .if2 .taken) _ _ (s .pre .7),
+      part-whole (s .args .names .now) (held s) (s .args .bound) (s .args .r) (s .args .i) (s .args .f .control) (s .args .f .next) _
+          (expr-at .ensures),
+      back-room (s .args .names .now) (held s) (s .args .bound) (s .args .r) (s .args .i) (s .args .f .control) (s .args .f .next) _
+          (expr-at .ensures) (s .pre .8) (two-at .result) (two-at .ensures .0) (if1 .left) (c .before .if2 .taken) _ _ (s .pre .7),
       omega (arith, next-goal (c .before)),
     )
 
@@ -111,7 +136,8 @@ returns-2 c =
     let if1 = c .before .before .before .before .before .if1 in
     let if2 = c .before .before .before .before .if2 in
     let put-jump2 = c .before .before .put-jump2 in
-    back-written (s .args .names .now) (held s) (s .args .bound) (s .args .r) (s .args .i) (s .args .f .control) (s .args .f .next) _ (expr-at .ensures) (s .pre .8) (two-at .result) (two-at .ensures .0) (if1 .left) (if2 .taken) _ refl _ refl (put-jump2 .ensures)
+    back-written (s .args .names .now) (held s) (s .args .bound) (s .args .r) (s .args .i) (s .args .f .control) (s .args .f .next) _
+    (expr-at .ensures) (s .pre .8) (two-at .result) (two-at .ensures .0) (if1 .left) (if2 .taken) _ refl _ refl (put-jump2 .ensures)
 
 put-bound-requires : tie.Need-put-bound-requires
 put-bound-requires c κs =
@@ -120,8 +146,10 @@ put-bound-requires c κs =
     let two-at = c .before .before .before .two-at in
     let if1 = c .before .before .if1 in (
       omega (arith, here s),
-      part-whole (s .args .names .now) (held s) (s .args .bound) (s .args .r) (s .args .i) (s .args .f .control) (s .args .f .next) _ (expr-at .ensures),
-      bound-room (s .args .names .now) (held s) (s .args .bound) (s .args .r) (s .args .i) (s .args .f .control) (s .args .f .next) _ (expr-at .ensures) (s .pre .8) (two-at .result) (two-at .ensures .0) (if1 .left) (c .before .if2 .left) _ _ (s .pre .7),
+      part-whole (s .args .names .now) (held s) (s .args .bound) (s .args .r) (s .args .i) (s .args .f .control) (s .args .f .next) _
+          (expr-at .ensures),
+      bound-room (s .args .names .now) (held s) (s .args .bound) (s .args .r) (s .args .i) (s .args .f .control) (s .args .f .next) _
+          (expr-at .ensures) (s .pre .8) (two-at .result) (two-at .ensures .0) (if1 .left) (c .before .if2 .left) _ _ (s .pre .7),
     )
 
 same-length-3 : tie.Need-same-length-3
@@ -135,7 +163,8 @@ returns-3 c =
     let if1 = c .before .before .before .before .before .if1 in
     let if2 = c .before .before .before .before .if2 in
     let put-bound = c .before .before .put-bound in
-    bound-written (s .args .names .now) (held s) (s .args .bound) (s .args .r) (s .args .i) (s .args .f .control) (s .args .f .next) _ (expr-at .ensures) (s .pre .8) (two-at .result) (two-at .ensures .0) (if1 .left) (if2 .left) _ refl (put-bound .ensures)
+    bound-written (s .args .names .now) (held s) (s .args .bound) (s .args .r) (s .args .i) (s .args .f .control) (s .args .f .next) _
+    (expr-at .ensures) (s .pre .8) (two-at .result) (two-at .ensures .0) (if1 .left) (if2 .left) _ refl (put-bound .ensures)
 
 pub write-jump-spec : {M : Type 1} → statement M
 write-jump-spec =

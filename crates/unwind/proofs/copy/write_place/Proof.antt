@@ -15,8 +15,14 @@ held c = held-at _ _ _ _ (c .pre .6)
 here : (c : tie.Start) → c .args .r * (c .args .n + 1) + c .args .i ≤ 263424
 here c = place-little _ _ _ (c .pre .1) (omega (arith, c .pre .2)) (omega (arith, c .pre .3, c .pre .4))
 
-inside : (c : tie.After-byte-at) → c .byte-at .result < length (c .before .before .before .before .before .before .before .before .args .names .now)
-inside c = omega (arith, held (c .before .before .before .before .before .before .before .before) .assigns (c .before .if2 .taken) .1, c .byte-at .ensures .0)
+inside : (c : tie.After-byte-at) → c .byte-at .result < length
+    (c .before .before .before .before .before .before .before .before .args .names .now)
+inside c =
+    omega (
+      arith,
+      held (c .before .before .before .before .before .before .before .before) .assigns (c .before .if2 .taken) .1,
+      c .byte-at .ensures .0,
+    )
 
 add-kind : tie.Need-add-kind
 add-kind c = search needs
@@ -25,7 +31,8 @@ shared-slice-read-kind : tie.Need-shared-slice-read-kind
 shared-slice-read-kind c = held (c .before .before .before .before) .kind-there
 
 write-jump-requires : tie.Need-write-jump-requires
-write-jump-requires c κs = let s = c .before .before .before .before .before .before .before in (s .pre .0, s .pre .1, s .pre .2, s .pre .3, s .pre .4, s .pre .5, s .pre .6, s .pre .7, c .before .before .if1 .taken)
+write-jump-requires c κs = let s = c .before .before .before .before .before .before .before in
+    (s .pre .0, s .pre .1, s .pre .2, s .pre .3, s .pre .4, s .pre .5, s .pre .6, s .pre .7, c .before .before .if1 .taken)
 
 same-length : tie.Need-same-length
 same-length c = search needs
@@ -69,12 +76,15 @@ put-assign-requires c κs =
     let expr-at = c .before .before .before .before .before .expr-at in
     let if2 = c .before .before .before .before .if2 in (
       omega (arith, here s),
-      part-whole (s .args .names .now) (held s) (s .args .bound) (s .args .r) (s .args .i) (s .args .f .control) (s .args .f .next) _ (expr-at .ensures),
-      assign-room (s .args .names .now) (held s) (s .args .bound) (s .args .r) (s .args .i) (s .args .f .control) (s .args .f .next) _ (expr-at .ensures) (if2 .taken) _ _ (s .pre .7),
+      part-whole (s .args .names .now) (held s) (s .args .bound) (s .args .r) (s .args .i) (s .args .f .control) (s .args .f .next) _
+          (expr-at .ensures),
+      assign-room (s .args .names .now) (held s) (s .args .bound) (s .args .r) (s .args .i) (s .args .f .control) (s .args .f .next) _
+          (expr-at .ensures) (if2 .taken) _ _ (s .pre .7),
     )
 
 cast-names : tie.Need-cast-names
-cast-names c = omega (arith, c .before .before .before .before .before .before .before .before .before .before .before .before .before .before .pre .5)
+cast-names c =
+    omega (arith, c .before .before .before .before .before .before .before .before .before .before .before .before .before .before .pre .5)
 
 mul-names : tie.Need-mul-names
 mul-names c = search needs
@@ -83,7 +93,8 @@ slice-write-names : tie.Need-slice-write-names
 slice-write-names c = inside (c .before .before .before .before .before .before)
 
 add-t28 : tie.Need-add-t28
-add-t28 c = omega (arith, c .before .before .before .before .before .before .before .before .before .before .before .before .before .before .pre .5)
+add-t28 c =
+    omega (arith, c .before .before .before .before .before .before .before .before .before .before .before .before .before .before .pre .5)
 
 same-length-3 : tie.Need-same-length-3
 same-length-3 c = search needs
@@ -98,7 +109,8 @@ returns-2 c =
     let if2 = c .before .before .before .before .before .before .before .if2 in
     let byte-at = c .before .before .before .before .before .before .byte-at in
     let put-assign = c .before .before .put-assign in
-    assign-written (s .args .names .now) (held s) (s .args .bound) (s .args .r) (s .args .i) (s .args .f .control) (s .args .f .next) _ (expr-at .ensures) (if2 .taken) _ (byte-at .result) refl (byte-at .ensures .0) (put-assign .ensures)
+    assign-written (s .args .names .now) (held s) (s .args .bound) (s .args .r) (s .args .i) (s .args .f .control) (s .args .f .next) _
+    (expr-at .ensures) (if2 .taken) _ (byte-at .result) refl (byte-at .ensures .0) (put-assign .ensures)
 
 put-test-requires : tie.Need-put-test-requires
 put-test-requires c κs =
@@ -107,8 +119,10 @@ put-test-requires c κs =
     let b = c .before .before .before .before .if1 .left in
     let k = held s .kinds a b in (
       omega (arith, here s),
-      part-whole (s .args .names .now) (held s) (s .args .bound) (s .args .r) (s .args .i) (s .args .f .control) (s .args .f .next) _ (c .before .before .before .expr-at .ensures),
-      test-room (s .args .names .now) (held s) (s .args .bound) (s .args .r) (s .args .i) (s .args .f .control) (s .args .f .next) _ (c .before .before .before .expr-at .ensures) a b _ _ (s .pre .7),
+      part-whole (s .args .names .now) (held s) (s .args .bound) (s .args .r) (s .args .i) (s .args .f .control) (s .args .f .next) _
+          (c .before .before .before .expr-at .ensures),
+      test-room (s .args .names .now) (held s) (s .args .bound) (s .args .r) (s .args .i) (s .args .f .control) (s .args .f .next) _
+          (c .before .before .before .expr-at .ensures) a b _ _ (s .pre .7),
       k .0,
       k .1,
     )
@@ -122,7 +136,9 @@ same-length-6 c = search needs
 returns-3 : tie.Need-returns-3
 returns-3 c =
     let s = c .before .before .before .before .before .before .before .before .before .before .before .before in
-    test-written (s .args .names .now) (held s) (s .args .bound) (s .args .r) (s .args .i) (s .args .f .control) (s .args .f .next) _ (c .before .before .before .before .before .before .expr-at .ensures) (c .before .before .before .before .before .if2 .left) (c .before .before .before .before .before .before .before .if1 .left) _ refl (c .before .before .put-test .ensures)
+    test-written (s .args .names .now) (held s) (s .args .bound) (s .args .r) (s .args .i) (s .args .f .control) (s .args .f .next) _
+    (c .before .before .before .before .before .before .expr-at .ensures) (c .before .before .before .before .before .if2 .left)
+    (c .before .before .before .before .before .before .before .if1 .left) _ refl (c .before .before .put-test .ensures)
 
 pub write-place-spec : {M : Type 1} → statement M
 write-place-spec =

@@ -33,25 +33,40 @@ put-tokens-requires : tie.Need-put-tokens-requires
 put-tokens-requires c κs = search needs
 
 put-old-requires : tie.Need-put-old-requires
-put-old-requires c κs = search (needs, sized (c .before .before .before .before .before .before .before .before .before .before .before .before .before .before .before .before))
+put-old-requires c κs =
+    search (
+      needs,
+      sized (c .before .before .before .before .before .before .before .before .before .before .before .before .before .before
+          .before .before),
+    )
 
 close-requires : tie.Need-close-requires
-close-requires c κs = search (needs, sized (c .before .before .before .before .before .before .before .before .before .before .before .before .before .before .before .before .before .before .before .before))
+close-requires c κs =
+    search (
+      needs,
+      sized (c .before .before .before .before .before .before .before .before .before .before .before .before .before .before
+          .before .before .before .before .before .before),
+    )
 
 same-length : tie.Need-same-length
 same-length c = search needs
 
 returns : tie.Need-returns
 returns c =
-    let start = c .before .before .before .before .before .before .before .before .before .before .before .before .before .before .before .before .before .before .before .before .before .before .before in
-    let open-assign = c .before .before .before .before .before .before .before .before .before .before .before .before .before .before .before .before .before .before .open-assign in
-    let put-guard = c .before .before .before .before .before .before .before .before .before .before .before .before .before .before .put-guard in
+    let start = c .before .before .before .before .before .before .before .before .before .before .before .before .before .before .before
+    .before .before .before .before .before .before .before .before in
+    let open-assign = c .before .before .before .before .before .before .before .before .before .before .before .before .before .before
+    .before .before .before .before .open-assign in
+    let put-guard = c .before .before .before .before .before .before .before .before .before .before .before .before .before .before
+    .put-guard in
     let put-tokens = c .before .before .before .before .before .before .before .before .before .before .put-tokens in
     let put-old = c .before .before .before .before .before .before .put-old in
     let close = c .before .before .close in
     let a = start .args in
     let e = body start in
-    closes (Assign (a .j) (a .new) (guarded (a .w) (a .j) (rename (currentOf (a .names .now)) e) (Symbol (a .old)))) (open-assign .ensures then put-guard .ensures then put-tokens .ensures then put-old .ensures) (assign-bytes (a .w) (a .j) (rename (currentOf (a .names .now)) e) (a .new) (Symbol (a .old))) (close .ensures)
+    closes (Assign (a .j) (a .new) (guarded (a .w) (a .j) (rename (currentOf (a .names .now)) e) (Symbol (a .old))))
+    (open-assign .ensures then put-guard .ensures then put-tokens .ensures then put-old .ensures)
+    (assign-bytes (a .w) (a .j) (rename (currentOf (a .names .now)) e) (a .new) (Symbol (a .old))) (close .ensures)
 
 pub put-assign-spec : {M : Type 1} → statement M
 put-assign-spec =

@@ -35,29 +35,50 @@ put-tokens-requires : tie.Need-put-tokens-requires
 put-tokens-requires c κs = search needs
 
 put-byte-requires : tie.Need-put-byte-requires
-put-byte-requires c κs = search (needs, sized (c .before .before .before .before .before .before .before .before .before .before .before .before .before .before .before .before))
+put-byte-requires c κs =
+    search (
+      needs,
+      sized (c .before .before .before .before .before .before .before .before .before .before .before .before .before .before
+          .before .before),
+    )
 
 put-holds-requires : tie.Need-put-holds-requires
-put-holds-requires c κs = search (needs, sized (c .before .before .before .before .before .before .before .before .before .before .before .before .before .before .before .before .before .before .before .before))
+put-holds-requires c κs =
+    search (
+      needs,
+      sized (c .before .before .before .before .before .before .before .before .before .before .before .before .before .before
+          .before .before .before .before .before .before),
+    )
 
 close-requires : tie.Need-close-requires
-close-requires c κs = search (needs, sized (c .before .before .before .before .before .before .before .before .before .before .before .before .before .before .before .before .before .before .before .before .before .before .before .before))
+close-requires c κs =
+    search (
+      needs,
+      sized (c .before .before .before .before .before .before .before .before .before .before .before .before .before .before
+          .before .before .before .before .before .before .before .before .before .before),
+    )
 
 same-length : tie.Need-same-length
 same-length c = search needs
 
 returns : tie.Need-returns
 returns c =
-    let start = c .before .before .before .before .before .before .before .before .before .before .before .before .before .before .before .before .before .before .before .before .before .before .before .before .before .before .before in
-    let open-test = c .before .before .before .before .before .before .before .before .before .before .before .before .before .before .before .before .before .before .before .before .before .before .open-test in
-    let put-guard = c .before .before .before .before .before .before .before .before .before .before .before .before .before .before .before .before .before .before .put-guard in
-    let put-tokens = c .before .before .before .before .before .before .before .before .before .before .before .before .before .before .put-tokens in
+    let start = c .before .before .before .before .before .before .before .before .before .before .before .before .before .before .before
+    .before .before .before .before .before .before .before .before .before .before .before .before in
+    let open-test = c .before .before .before .before .before .before .before .before .before .before .before .before .before .before
+    .before .before .before .before .before .before .before .before .open-test in
+    let put-guard = c .before .before .before .before .before .before .before .before .before .before .before .before .before .before
+    .before .before .before .before .put-guard in
+    let put-tokens = c .before .before .before .before .before .before .before .before .before .before .before .before .before .before
+    .put-tokens in
     let put-byte = c .before .before .before .before .before .before .before .before .before .before .put-byte in
     let put-holds = c .before .before .before .before .before .before .put-holds in
     let close = c .before .before .close in
     let a = start .args in
     let e = body start in
-    closes (Test Assume (a .j) (guarded (a .w) (a .j) (rename (currentOf (a .names .now)) (e ++ Un Zero ∷ [])) (Const 1))) (open-test .ensures then put-guard .ensures then put-tokens .ensures then put-byte .ensures then put-holds .ensures) (bound-bytes (a .w) (a .j) e (currentOf (a .names .now))) (close .ensures)
+    closes (Test Assume (a .j) (guarded (a .w) (a .j) (rename (currentOf (a .names .now)) (e ++ Un Zero ∷ [])) (Const 1)))
+    (open-test .ensures then put-guard .ensures then put-tokens .ensures then put-byte .ensures then put-holds .ensures)
+    (bound-bytes (a .w) (a .j) e (currentOf (a .names .now))) (close .ensures)
 
 pub put-bound-spec : {M : Type 1} → statement M
 put-bound-spec =

@@ -32,14 +32,18 @@ same-length c = search needs
 
 returns : tie.Need-returns
 returns c =
-    let args = c .before .before .before .before .before .before .before .before .before .before .before .before .before .before .before .before .before .before .before .before .before .args in
-    let open-assign = c .before .before .before .before .before .before .before .before .before .before .before .before .before .before .before .before .before .before .open-assign in
-    let put-guard = c .before .before .before .before .before .before .before .before .before .before .before .before .before .before .put-guard in
+    let args = c .before .before .before .before .before .before .before .before .before .before .before .before .before .before .before
+    .before .before .before .before .before .before .args in
+    let open-assign = c .before .before .before .before .before .before .before .before .before .before .before .before .before .before
+    .before .before .before .before .open-assign in
+    let put-guard = c .before .before .before .before .before .before .before .before .before .before .before .before .before .before
+    .put-guard in
     let put-constant = c .before .before .before .before .before .before .before .before .before .before .put-constant in
     let put-old = c .before .before .before .before .before .before .put-old in
     let close = c .before .before .close in
     let a = args in
-    closes (Assign (a .j) (a .new) (guarded (a .w) (a .j) (Const (a .goal) ∷ []) (Symbol (a .w)))) (open-assign .ensures then put-guard .ensures then put-constant .ensures then put-old .ensures) refl (close .ensures)
+    closes (Assign (a .j) (a .new) (guarded (a .w) (a .j) (Const (a .goal) ∷ []) (Symbol (a .w))))
+    (open-assign .ensures then put-guard .ensures then put-constant .ensures then put-old .ensures) refl (close .ensures)
 
 pub put-exit-spec : {M : Type 1} → statement M
 put-exit-spec =

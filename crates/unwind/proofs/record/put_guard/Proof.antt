@@ -19,7 +19,9 @@ same-length : tie.Need-same-length
 same-length c = search needs
 
 returns : tie.Need-returns
-returns c = c .before .before .before .before .before .before .before .before .before .before .put-symbol .ensures then c .before .before .before .before .before .before .put-constant .ensures then c .before .before .put-byte .ensures
+returns c =
+    c .before .before .before .before .before .before .before .before .before .before .put-symbol .ensures then
+    c .before .before .before .before .before .before .put-constant .ensures then c .before .before .put-byte .ensures
 
 pub put-guard-spec : {M : Type 1} → statement M
 put-guard-spec =

@@ -36,33 +36,61 @@ cast-put-constant : tie.Need-cast-put-constant
 cast-put-constant c = search needs
 
 put-constant-requires : tie.Need-put-constant-requires
-put-constant-requires c κs = search (needs, sized (c .before .before .before .before .before .before .before .before .before .before .before .before .before .before .before .before))
+put-constant-requires c κs =
+    search (
+      needs,
+      sized (c .before .before .before .before .before .before .before .before .before .before .before .before .before .before
+          .before .before),
+    )
 
 put-old-requires : tie.Need-put-old-requires
-put-old-requires c κs = search (needs, sized (c .before .before .before .before .before .before .before .before .before .before .before .before .before .before .before .before .before .before .before .before))
+put-old-requires c κs =
+    search (
+      needs,
+      sized (c .before .before .before .before .before .before .before .before .before .before .before .before .before .before
+          .before .before .before .before .before .before),
+    )
 
 put-old-requires-2 : tie.Need-put-old-requires-2
-put-old-requires-2 c κs = search (needs, sized (c .before .before .before .before .before .before .before .before .before .before .before .before .before .before .before .before .before .before .before .before .before .before .before .before))
+put-old-requires-2 c κs =
+    search (
+      needs,
+      sized (c .before .before .before .before .before .before .before .before .before .before .before .before .before .before
+          .before .before .before .before .before .before .before .before .before .before),
+    )
 
 close-requires : tie.Need-close-requires
-close-requires c κs = search (needs, sized (c .before .before .before .before .before .before .before .before .before .before .before .before .before .before .before .before .before .before .before .before .before .before .before .before .before .before .before .before))
+close-requires c κs =
+    search (
+      needs,
+      sized (c .before .before .before .before .before .before .before .before .before .before .before .before .before .before
+          .before .before .before .before .before .before .before .before .before .before .before .before .before .before),
+    )
 
 same-length : tie.Need-same-length
 same-length c = search needs
 
 returns : tie.Need-returns
 returns c =
-    let start = c .before .before .before .before .before .before .before .before .before .before .before .before .before .before .before .before .before .before .before .before .before .before .before .before .before .before .before .before .before .before .before in
-    let open-assign = c .before .before .before .before .before .before .before .before .before .before .before .before .before .before .before .before .before .before .before .before .before .before .before .before .before .before .open-assign in
-    let put-guard = c .before .before .before .before .before .before .before .before .before .before .before .before .before .before .before .before .before .before .before .before .before .before .put-guard in
-    let put-tokens = c .before .before .before .before .before .before .before .before .before .before .before .before .before .before .before .before .before .before .put-tokens in
-    let put-constant = c .before .before .before .before .before .before .before .before .before .before .before .before .before .before .put-constant in
+    let start = c .before .before .before .before .before .before .before .before .before .before .before .before .before .before .before
+    .before .before .before .before .before .before .before .before .before .before .before .before .before .before .before .before in
+    let open-assign = c .before .before .before .before .before .before .before .before .before .before .before .before .before .before
+    .before .before .before .before .before .before .before .before .before .before .before .before .open-assign in
+    let put-guard = c .before .before .before .before .before .before .before .before .before .before .before .before .before .before
+    .before .before .before .before .before .before .before .before .put-guard in
+    let put-tokens = c .before .before .before .before .before .before .before .before .before .before .before .before .before .before
+    .before .before .before .before .put-tokens in
+    let put-constant = c .before .before .before .before .before .before .before .before .before .before .before .before .before .before
+    .put-constant in
     let put-old = c .before .before .before .before .before .before .before .before .before .before .put-old in
     let put-old2 = c .before .before .before .before .before .before .put-old2 in
     let close = c .before .before .close in
     let a = start .args in
     let e = body start in
-    closes (Assign (a .j) (a .new) (guarded (a .w) (a .j) ((rename (currentOf (a .names .now)) e) ++ Const (a .goal) ∷ Symbol (a .w) ∷ Ite ∷ []) (Symbol (a .w)))) (open-assign .ensures then put-guard .ensures then put-tokens .ensures then put-constant .ensures then put-old .ensures then put-old2 .ensures) (jump-bytes (a .w) (a .j) (rename (currentOf (a .names .now)) e) (a .new) (a .goal)) (close .ensures)
+    closes (Assign (a .j) (a .new) (guarded (a .w) (a .j) ((rename (currentOf (a .names .now)) e) ++ Const (a .goal) ∷ Symbol (a .w) ∷ Ite
+    ∷ []) (Symbol (a .w)))) (open-assign .ensures then put-guard .ensures then put-tokens .ensures then put-constant .ensures then
+    put-old .ensures then put-old2 .ensures) (jump-bytes (a .w) (a .j) (rename (currentOf (a .names .now)) e) (a .new) (a .goal))
+    (close .ensures)
 
 pub put-jump-spec : {M : Type 1} → statement M
 put-jump-spec =

@@ -19,7 +19,10 @@ same-length : tie.Need-same-length
 same-length c = search needs
 
 returns : tie.Need-returns
-returns c = closes (opening (c .before .before .before .before .before .before .before .before .before .before .before .before .before .args .inputs)) (c .before .before .before .before .before .before .before .before .before .before .open-assign .ensures then c .before .before .before .before .before .before .put-constant .ensures) refl (c .before .before .close .ensures)
+returns c =
+    closes (opening (c .before .before .before .before .before .before .before .before .before .before .before .before .before .args
+    .inputs)) (c .before .before .before .before .before .before .before .before .before .before .open-assign .ensures then
+    c .before .before .before .before .before .before .put-constant .ensures) refl (c .before .before .close .ensures)
 
 pub put-opening-spec : {M : Type 1} → statement M
 put-opening-spec =

@@ -34,25 +34,40 @@ put-tokens-requires : tie.Need-put-tokens-requires
 put-tokens-requires c κs = search needs
 
 put-holds-requires : tie.Need-put-holds-requires
-put-holds-requires c κs = search (needs, sized (c .before .before .before .before .before .before .before .before .before .before .before .before .before .before .before .before))
+put-holds-requires c κs =
+    search (
+      needs,
+      sized (c .before .before .before .before .before .before .before .before .before .before .before .before .before .before
+          .before .before),
+    )
 
 close-requires : tie.Need-close-requires
-close-requires c κs = search (needs, sized (c .before .before .before .before .before .before .before .before .before .before .before .before .before .before .before .before .before .before .before .before))
+close-requires c κs =
+    search (
+      needs,
+      sized (c .before .before .before .before .before .before .before .before .before .before .before .before .before .before
+          .before .before .before .before .before .before),
+    )
 
 same-length : tie.Need-same-length
 same-length c = search needs
 
 returns : tie.Need-returns
 returns c =
-    let start = c .before .before .before .before .before .before .before .before .before .before .before .before .before .before .before .before .before .before .before .before .before .before .before in
-    let open-test = c .before .before .before .before .before .before .before .before .before .before .before .before .before .before .before .before .before .before .open-test in
-    let put-guard = c .before .before .before .before .before .before .before .before .before .before .before .before .before .before .put-guard in
+    let start = c .before .before .before .before .before .before .before .before .before .before .before .before .before .before .before
+    .before .before .before .before .before .before .before .before in
+    let open-test = c .before .before .before .before .before .before .before .before .before .before .before .before .before .before
+    .before .before .before .before .open-test in
+    let put-guard = c .before .before .before .before .before .before .before .before .before .before .before .before .before .before
+    .put-guard in
     let put-tokens = c .before .before .before .before .before .before .before .before .before .before .put-tokens in
     let put-holds = c .before .before .before .before .before .before .put-holds in
     let close = c .before .before .close in
     let a = start .args in
     let e = body start in
-    closes (Test (kindOf (a .kind)) (a .j) (guarded (a .w) (a .j) (rename (currentOf (a .names .now)) e) (Const 1))) (open-test .ensures then put-guard .ensures then put-tokens .ensures then put-holds .ensures) (test-bytes (a .w) (a .j) (rename (currentOf (a .names .now)) e) (a .kind) (start .pre .3) (start .pre .4)) (close .ensures)
+    closes (Test (kindOf (a .kind)) (a .j) (guarded (a .w) (a .j) (rename (currentOf (a .names .now)) e) (Const 1)))
+    (open-test .ensures then put-guard .ensures then put-tokens .ensures then put-holds .ensures)
+    (test-bytes (a .w) (a .j) (rename (currentOf (a .names .now)) e) (a .kind) (start .pre .3) (start .pre .4)) (close .ensures)
 
 pub put-test-spec : {M : Type 1} → statement M
 put-test-spec =

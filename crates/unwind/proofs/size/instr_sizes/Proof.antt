@@ -9,7 +9,9 @@ held : (c : tie.Start) → Held 64 (c .args .n) (c .args .table .now) (c .args .
 held c = held-at 64 (c .args .n) (c .args .table .now) (c .args .at) (c .pre .2)
 
 size-is : (c : tie.After-expr-size) → Measured (held (c .before .before .before .before)) (c .expr-size .result)
-size-is c = measured (held (c .before .before .before .before)) (c .before .before .before .before .pre .1) (c .before .expr-at .ensures) _ (c .expr-size .ensures .0) (c .expr-size .ensures .1)
+size-is c =
+    measured (held (c .before .before .before .before)) (c .before .before .before .before .pre .1) (c .before .expr-at .ensures) _
+    (c .expr-size .ensures .0) (c .expr-size .ensures .1)
 
 add-kind : tie.Need-add-kind
 add-kind c = search needs
@@ -36,7 +38,10 @@ add-t16 : tie.Need-add-t16
 add-t16 c = omega (arith, size-is (c .before .before .before) .little)
 
 returns : tie.Need-returns
-returns c = jumps-on (held (c .before .before .before .before .before .before .before)) (size-is (c .before .before .before)) (c .before .before .before .before .before .before .before .args .i) (c .before .before .if1 .taken) _ (c .before .two-at .ensures .0) (c .if2 .taken)
+returns c =
+    jumps-on (held (c .before .before .before .before .before .before .before)) (size-is (c .before .before .before))
+    (c .before .before .before .before .before .before .before .args .i) (c .before .before .if1 .taken) _ (c .before .two-at .ensures .0)
+    (c .if2 .taken)
 
 add-t12 : tie.Need-add-t12
 add-t12 c = omega (arith, size-is (c .before .before .before) .little)
@@ -45,7 +50,10 @@ add-t13 : tie.Need-add-t13
 add-t13 c = omega (arith, size-is (c .before .before .before) .little)
 
 returns-2 : tie.Need-returns-2
-returns-2 c = jumps-back (held (c .before .before .before .before .before .before .before)) (size-is (c .before .before .before)) (c .before .before .before .before .before .before .before .args .i) (c .before .before .if1 .taken) _ (c .before .two-at .ensures .0) (c .if2 .left)
+returns-2 c =
+    jumps-back (held (c .before .before .before .before .before .before .before)) (size-is (c .before .before .before))
+    (c .before .before .before .before .before .before .before .args .i) (c .before .before .if1 .taken) _ (c .before .two-at .ensures .0)
+    (c .if2 .left)
 
 add-t7 : tie.Need-add-t7
 add-t7 c = omega (arith, size-is (c .before) .little)
@@ -54,7 +62,9 @@ add-t17 : tie.Need-add-t17
 add-t17 c = omega (arith, size-is (c .before) .little)
 
 returns-3 : tie.Need-returns-3
-returns-3 c = no-jump (held (c .before .before .before .before .before)) (size-is (c .before)) (c .before .before .before .before .before .args .i) (c .if1 .left)
+returns-3 c =
+    no-jump (held (c .before .before .before .before .before)) (size-is (c .before)) (c .before .before .before .before .before .args .i)
+    (c .if1 .left)
 
 pub instr-sizes-spec : {M : Type 1} → statement M
 instr-sizes-spec =

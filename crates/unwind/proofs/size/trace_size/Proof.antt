@@ -13,13 +13,25 @@ mul-result : tie.Need-mul-result
 mul-result c = omega (arith, copies-little _ _ (c .before .before .before .before .pre .0) (c .before .copy-sizes .ensures .2))
 
 add-result : tie.Need-add-result
-add-result c = omega (arith, copies-little _ _ (c .before .before .before .before .before .pre .0) (c .before .before .copy-sizes .ensures .2), c .before .before .copy-sizes .ensures .3)
+add-result c =
+    omega (
+      arith,
+      copies-little _ _ (c .before .before .before .before .before .pre .0) (c .before .before .copy-sizes .ensures .2),
+      c .before .before .copy-sizes .ensures .3,
+    )
 
 add-result-2 : tie.Need-add-result-2
-add-result-2 c = omega (arith, copies-little _ _ (c .before .before .before .before .before .pre .0) (c .before .before .copy-sizes .ensures .2), c .before .before .copy-sizes .ensures .3)
+add-result-2 c =
+    omega (
+      arith,
+      copies-little _ _ (c .before .before .before .before .before .pre .0) (c .before .before .copy-sizes .ensures .2),
+      c .before .before .copy-sizes .ensures .3,
+    )
 
 returns : tie.Need-returns
-returns c = ap₂ (λ e l. 18 + (c .before .before .before .before .before .args .bound * e + l)) (c .before .before .copy-sizes .ensures .0) (c .before .before .copy-sizes .ensures .1)
+returns c =
+    ap₂ (λ e l. 18 + (c .before .before .before .before .before .args .bound * e + l)) (c .before .before .copy-sizes .ensures .0)
+    (c .before .before .copy-sizes .ensures .1)
 
 pub trace-size-spec : {M : Type 1} → statement M
 trace-size-spec =

@@ -16,8 +16,11 @@ abbrev μ-loop : tie.MeasureT-loop
 loop-holds : tie.Need-loop-holds Inv-loop μ-loop
 loop-holds c = measuring-start _ (c .before .pre .0)
 
-on : (c : tie.After-struct-known Inv-loop μ-loop) → MeasureOn (c .before .before .before .before .loop .inv) (c .before .span-of .result .here) (c .before .span-of .result .there)
-on c = measure-on (c .before .before .before .before .loop .inv) (c .before .before .before .loop-test .taken) (c .before .span-of .result) (c .before .span-of .ensures)
+on : (c : tie.After-struct-known Inv-loop μ-loop) → MeasureOn (c .before .before .before .before .loop .inv)
+    (c .before .span-of .result .here) (c .before .span-of .result .there)
+on c =
+    measure-on (c .before .before .before .before .loop .inv) (c .before .before .before .loop-test .taken) (c .before .span-of .result)
+    (c .before .span-of .ensures)
 
 shared-slice-read-span-of : tie.Need-shared-slice-read-span-of Inv-loop μ-loop
 shared-slice-read-span-of c = c .before .loop-test .taken

@@ -16,24 +16,40 @@ use borrow.Author.Tests.{ltb-true}
 use Rattle.expr.proofs.Steps.{Constant, Reads}
 use Rattle.unwind.proofs.Exprs.{Is, constant, symbol, constant-is, symbol-is, operator-token, current-at, token-room, token-wrote}
 
-is-constant : (c : tie.Then1) → Constant Table (c .before .before .before .before .before .pre .1 .0) (c .before .before .before .before .before .args .e .now) (c .before .before .before .before .before .args .i)
+is-constant : (c : tie.Then1) → Constant Table (c .before .before .before .before .before .pre .1 .0)
+    (c .before .before .before .before .before .args .e .now) (c .before .before .before .before .before .args .i)
 is-constant c = let s = c .before .before .before .before .before in constant _ _ _ (s .pre .0) (s .pre .1) (c .if1 .taken)
 
-is-symbol : (c : tie.Then2) → Reads Table (below (length (c .before .before .before .before .before .before .args .names .now))) (c .before .before .before .before .before .before .pre .1 .0) (c .before .before .before .before .before .before .args .e .now) (c .before .before .before .before .before .before .args .i)
+is-symbol : (c : tie.Then2) → Reads Table (below (length (c .before .before .before .before .before .before .args .names .now)))
+    (c .before .before .before .before .before .before .pre .1 .0) (c .before .before .before .before .before .before .args .e .now)
+    (c .before .before .before .before .before .before .args .i)
 is-symbol c = let s = c .before .before .before .before .before .before in symbol _ _ _ (s .pre .0) (s .pre .1) (c .if2 .taken)
 
-constant-here : (c : tie.After-word-at) → Is (currentOf (c .before .before .before .before .before .before .args .names .now)) (c .before .before .before .before .before .before .args .e .now) (c .before .before .before .before .before .before .args .i) 5 (tokenBytes Trace (Const (c .word-at .result)))
-constant-here c = let s = c .before .before .before .before .before .before in constant-is _ _ _ (s .pre .0) (s .pre .1) (currentOf (s .args .names .now)) (c .before .if1 .taken) (c .word-at .result) (c .word-at .ensures)
+constant-here : (c : tie.After-word-at) → Is (currentOf (c .before .before .before .before .before .before .args .names .now))
+    (c .before .before .before .before .before .before .args .e .now) (c .before .before .before .before .before .before .args .i) 5
+    (tokenBytes Trace (Const (c .word-at .result)))
+constant-here c = let s = c .before .before .before .before .before .before in constant-is _ _ _ (s .pre .0) (s .pre .1)
+    (currentOf (s .args .names .now)) (c .before .if1 .taken) (c .word-at .result) (c .word-at .ensures)
 
 inside : (c : tie.After-byte-at) → c .byte-at .result < length (c .before .before .before .before .before .before .before .args .names .now)
-inside c = ltb-true _ _ (subst (λ n. ltb n (length (c .before .before .before .before .before .before .before .args .names .now)) ≡ true) (sym (c .byte-at .ensures .0)) (is-symbol (c .before) .known))
+inside c =
+    ltb-true _ _ (subst (λ n. ltb n (length (c .before .before .before .before .before .before .before .args .names .now)) ≡ true)
+    (sym (c .byte-at .ensures .0)) (is-symbol (c .before) .known))
 
-symbol-here : (c : tie.After-byte-at) → Is (currentOf (c .before .before .before .before .before .before .before .args .names .now)) (c .before .before .before .before .before .before .before .args .e .now) (c .before .before .before .before .before .before .before .args .i) 2 (tokenBytes Trace (Symbol (getD (c .before .before .before .before .before .before .before .args .names .now) (c .byte-at .result) 0)))
+symbol-here : (c : tie.After-byte-at) → Is (currentOf (c .before .before .before .before .before .before .before .args .names .now))
+    (c .before .before .before .before .before .before .before .args .e .now)
+    (c .before .before .before .before .before .before .before .args .i) 2
+    (tokenBytes Trace (Symbol (getD (c .before .before .before .before .before .before .before .args .names .now) (c .byte-at .result) 0)))
 symbol-here c = let s = c .before .before .before .before .before .before .before in
-    symbol-is _ _ _ (s .pre .0) (s .pre .1) (currentOf (s .args .names .now)) (c .before .if2 .taken) _ (current-at (s .args .names .now) _ (inside c) ∙ ap (currentOf (s .args .names .now)) (c .byte-at .ensures .0))
+    symbol-is _ _ _ (s .pre .0) (s .pre .1) (currentOf (s .args .names .now)) (c .before .if2 .taken) _
+    (current-at (s .args .names .now) _ (inside c) ∙ ap (currentOf (s .args .names .now)) (c .byte-at .ensures .0))
 
-operator-here : (c : tie.Else2) → Is (currentOf (c .before .before .before .before .before .before .args .names .now)) (c .before .before .before .before .before .before .args .e .now) (c .before .before .before .before .before .before .args .i) 1 (getD (c .before .before .before .before .before .before .args .e .now) (c .before .before .before .before .before .before .args .i) 0 ∷ [])
-operator-here c = let s = c .before .before .before .before .before .before in operator-token _ _ _ (s .pre .0) (s .pre .1) (currentOf (s .args .names .now)) (c .before .if1 .left) (c .if2 .left)
+operator-here : (c : tie.Else2) → Is (currentOf (c .before .before .before .before .before .before .args .names .now))
+    (c .before .before .before .before .before .before .args .e .now) (c .before .before .before .before .before .before .args .i) 1
+    (getD (c .before .before .before .before .before .before .args .e .now) (c .before .before .before .before .before .before .args .i) 0
+    ∷ [])
+operator-here c = let s = c .before .before .before .before .before .before in operator-token _ _ _ (s .pre .0) (s .pre .1)
+    (currentOf (s .args .names .now)) (c .before .if1 .left) (c .if2 .left)
 
 shared-slice-read-code : tie.Need-shared-slice-read-code
 shared-slice-read-code c = search needs
@@ -69,7 +85,8 @@ cast-current : tie.Need-cast-current
 cast-current c = omega (arith, c .shared-slice-known4 .given (c .before .byte-at .result))
 
 put-symbol-requires : tie.Need-put-symbol-requires
-put-symbol-requires c κs = token-room (symbol-here (c .before .before)) _ _ (c .before .before .before .before .before .before .before .before .before .pre .2)
+put-symbol-requires c κs =
+    token-room (symbol-here (c .before .before)) _ _ (c .before .before .before .before .before .before .before .before .before .pre .2)
 
 same-length-2 : tie.Need-same-length-2
 same-length-2 c = search needs
