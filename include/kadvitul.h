@@ -27,8 +27,8 @@ extern "C" {
 /* The room that always does, in bytes. */
 #define KADVITUL_ROOM 65535
 
-/* Replies. The offset is that of the refused record's first byte, or of the first spare byte, for 5 to 7, and 0 otherwise. A refusal's other
- * numbers are 0. */
+/* Replies. The offset is that of the refused record's first byte, or of the first spare byte, for 5 to 7, and 0 otherwise. A refusal's
+ * other numbers are 0. */
 enum kadvitul_reply {
     KADVITUL_DONE = 0,
     KADVITUL_TOO_SHORT = 1,        /* fewer than 6 bytes */

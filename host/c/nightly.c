@@ -6,8 +6,8 @@
  * VALUATIONS has one valuation after the other, 4 bytes big-endian for each input; FILE's byte 3 says how many inputs there are. A file
  * without valuations, or with a part of one at its end, is handed over as it is, and refused by its length where there are inputs.
  *
- * Exit status: 0 all safe; 1 wrong usage; 2 a call refused, whatever the others said; 3 a file cannot be read, the output not be written, or
- * the archive is of another version; 4 some unsafe. */
+ * Exit status: 0 all safe; 1 wrong usage; 2 a call refused, whatever the others said; 3 a file cannot be read, the output not be written,
+ * or the archive is of another version; 4 some unsafe. */
 #include <errno.h>
 #include <inttypes.h>
 #include <stdio.h>
