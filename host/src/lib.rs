@@ -6,6 +6,7 @@ pub mod case;
 pub mod cases;
 pub mod encoding;
 pub mod generate;
+pub mod hex;
 pub mod hold;
 pub mod listing;
 pub mod model;

@@ -2,6 +2,7 @@
 
 use host::agreement::{archive_mask, archive_slice, archive_trace};
 use host::archive;
+use host::hex;
 use host::parts::Parts;
 
 const SMALL: &str = include_str!("../../rules/small.hex");
@@ -10,10 +11,8 @@ const NEWER: &str = include_str!("../../rules/newer.hex");
 const STATIONS: &str = include_str!("../../rules/stations.hex");
 const REFUSED: &str = include_str!("../../rules/refused.hex");
 
-/// The bytes of a rule: hexadecimal, with comments after `#`.
 fn table(text: &str) -> Vec<u8> {
-    let words = text.lines().filter(|line| !line.starts_with('#')).flat_map(str::split_whitespace);
-    words.map(|word| u8::from_str_radix(word, 16).expect("two hexadecimal digits")).collect()
+    hex::bytes(text).expect("a rule's bytes")
 }
 
 fn slice(text: &str, bound: u64) -> Vec<u8> {
