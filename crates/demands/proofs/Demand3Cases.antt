@@ -2,6 +2,7 @@
 use Prim.Native.Nat.{ℕ, zero, suc, _<_}
 use native.Mathlib.Omega.{arith}
 use mathlib.Core.Path.{_≡_, refl, sym, ap, subst}
+use mathlib.Core.Logic.{_↔_}
 use mathlib.Core.List.{List, [], _∷_}
 use lib.ListN.{length, getD}
 use lib.Dec.{ltb}
@@ -20,10 +21,17 @@ use Rattle.unwind.specs.Unwind.{unwind}
 use Rattle.unwind.specs.Answer.{traceAnswer}
 use Rattle.unwind.specs.Cases.{m5}
 use Rattle.slice.specs.Slice.{slice}
-use Rattle.slice.specs.Answer.{sliceAnswer}
+use Rattle.slice.specs.Answer.{Sliced, sliceAnswer}
 use Rattle.demands.specs.Valuation.{Handed, Words, Bytes, inputIn, ranWith, judgedWith}
-use Rattle.demands.specs.Demand3.{RunUnsafeAt, UnsafeAt, RunOneVerdict, OneVerdict, AgreeOn, Demand3}
+use Rattle.demands.specs.Demand3.{RunUnsafeAt, UnsafeAt, RunOneVerdict, OneVerdict, AgreeOn, OneAnswer, Demand3}
 use Rattle.demands.proofs.Demand3Proof.{demand3}
+
+-- ---- trace and slice, through the run
+
+-- the whole trace is violated at a place exactly if its slice is
+pub trace-slice : {h : Handed} {b : List ℕ} {K : ℕ} {t : List ℕ} {q : Sliced} → OneAnswer h b K t q → (v : List ℕ) (p : ℕ)
+    → UnsafeAt p (judgedWith h t v) ↔ UnsafeAt p (judgedWith h (q .bytes) v)
+trace-slice a v p = (λ u. a .run-slice v p .0 (a .run-trace v p .1 u), λ u. a .run-trace v p .0 (a .run-slice v p .1 u))
 
 -- ---- the small rule
 
@@ -46,6 +54,10 @@ small-sliced = small-demand .sliced 156 (omega (arith, ap (λ a. length (a .byte
 -- for x = 0 running is unsafe at 3 (m1), and so is judging the slice
 pub small-unsafe : UnsafeAt 3 (judgedWith Words ((sliceAnswer smallTrace 156) .bytes) (0 ∷ []))
 small-unsafe = (small-demand .alike Words 156 small-sliced) .run-slice (0 ∷ []) 3 .0 (subst (RunUnsafeAt 3) (sym m1) (refl, refl, refl))
+
+-- and for no x is judging it refused
+pub small-accepted : (x : ℕ) → (judgedWith Words ((sliceAnswer smallTrace 156) .bytes) (x ∷ [])) .reply ≡ 0
+small-accepted x = (small-demand .alike Words 156 small-sliced) .none-refused (x ∷ []) refl .2
 
 -- ---- of two inputs, assert s0: the slice reads the first alone
 

@@ -1,7 +1,9 @@
 -- Document 01, "How much each public call must say": any two answers, and buffers afterwards, that meet a call's statement are equal. Each
 -- statement is the one that stands in the call's `ensures`: a weaker one would break its theorem here.
 use Prim.Native.Nat.{ℕ}
-use mathlib.Core.Path.{_≡_, sym, _∙_}
+use native.Mathlib.Omega.{arith}
+use native.Mathlib.Decide.{decLt}
+use mathlib.Core.Path.{_≡_, refl, sym, _∙_}
 use mathlib.Core.List.{List}
 use Rattle.table.specs.declared.Answer as Ran
 use Rattle.table.specs.Answer.{RunAnswered}
@@ -15,6 +17,21 @@ use Rattle.show.specs.declared.Answer as Shown
 use Rattle.show.specs.Answer.{SliceShown}
 use Rattle.kadvitul.specs.Interface.{VersionGives, RunNumber, RunGives, JudgeNumber, JudgeGives, TraceNumber, TraceGives, SliceNumber}
 use Rattle.kadvitul.specs.Interface.{SliceGives}
+use Rattle.demands.specs.Replies.{Call, Demand1}
+
+-- ---- demand 1 leaves no choice
+
+-- two replies with their offsets that meet it for one call are equal
+pub replies-determined : (c : Call) (reply at reply′ at′ : ℕ) → Demand1 c reply at → Demand1 c reply′ at′ → (reply ≡ reply′) × (at ≡ at′)
+replies-determined c reply at reply′ at′ h k =
+    elim (decLt 0 reply) [
+      | yes l ↦
+          let row = h .refused reply at l .0 (refl, refl) in
+          let same = k .refused reply at l .1 row in (sym (same .0), sym (same .1))
+      | no l ↦
+          let done : reply ≡ 0 = omega arith in
+          let done′ : reply′ ≡ 0 = k .done .1 (h .done .0 done) in (done ∙ sym done′, h .done-offset done ∙ sym (k .done-offset done′))
+    ]
 
 -- ---- the library's calls
 
