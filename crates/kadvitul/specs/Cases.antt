@@ -43,9 +43,10 @@ runs = (refl, refl, refl, refl, refl, refl)
 judges : (judgeBytes Judged.example (0x00 ∷ 0x00 ∷ 0x00 ∷ 0x05 ∷ []) ≡ Judged.safe)
     × (judgeBytes Judged.example (0x00 ∷ 0x00 ∷ 0x00 ∷ 0x0A ∷ []) ≡ Judged.unsafeAt 1)
     × (judgeBytes Judged.example (0x0A ∷ []) ≡ Judging.refusal 11 0)
+    × (judgeBytes Judged.example (0x00 ∷ 0x00 ∷ 0x00 ∷ 0x05 ∷ 0x00 ∷ []) ≡ Judging.refusal 11 0)
     × (judgeBytes Judged.example (0x00 ∷ 0x00 ∷ 0x00 ∷ 0x05 ∷ 0x00 ∷ 0x00 ∷ 0x00 ∷ 0x05 ∷ []) ≡ Judging.refusal 11 0)
 unfolding judgeBytes readTrace readFile headerReply records recordOf frame stmt parseFrom readToken operator fits judge value unary binary
-judges = (refl, refl, refl, refl)
+judges = (refl, refl, refl, refl, refl)
 
 -- ---- each number by its name
 
