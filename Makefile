@@ -30,7 +30,7 @@ test:
 	@tools/gate
 
 bench: lib
-	cd host && cargo run --offline --release --quiet --bin bench
+	cd host && cargo run --offline --profile measure --quiet --bin bench
 
 soak: lib
 	cd host && CASES=$(N) SEED=$(SEED) cargo run --offline --release --quiet --bin soak
