@@ -1,16 +1,26 @@
 //! What one call is given, and how it is printed for pasting.
 
-use std::fmt::{self, Debug, Display};
+use std::fmt::{self, Display};
 
-use crate::archive;
+use crate::answer::Answer;
+use crate::archive::{Calls, ARCHIVE};
 use crate::model::{self, JudgeAnswer, RunAnswer, SliceAnswer, TraceAnswer};
-use crate::program::{self, Printed};
+use crate::program::Printed;
 use crate::written::{lend, Written};
 
 pub trait Case: Clone + Display {
-    type Answer: Debug + PartialEq;
+    /// What CASE says to repeat a case like this.
+    const NAME: &'static str;
+
+    type Answer: Answer;
 
     fn model(&self) -> Self::Answer;
+
+    fn ask(&self, calls: &dyn Calls) -> Self::Answer;
+
+    fn archive(&self) -> Self::Answer {
+        self.ask(ARCHIVE)
+    }
 
     fn reply(answer: &Self::Answer) -> u32;
 
@@ -38,17 +48,17 @@ pub struct RunCase {
     pub valuation: Vec<u8>,
 }
 
-impl RunCase {
-    pub fn archive(&self) -> RunAnswer {
-        archive::run(&self.table, self.bound, &self.valuation)
-    }
-}
-
 impl Case for RunCase {
+    const NAME: &'static str = "run";
+
     type Answer = RunAnswer;
 
     fn model(&self) -> RunAnswer {
         model::run(&self.table, self.bound, &self.valuation)
+    }
+
+    fn ask(&self, calls: &dyn Calls) -> RunAnswer {
+        calls.run(&self.table, self.bound, &self.valuation)
     }
 
     fn reply(answer: &RunAnswer) -> u32 {
@@ -84,17 +94,17 @@ pub struct JudgeCase {
     pub valuation: Vec<u8>,
 }
 
-impl JudgeCase {
-    pub fn archive(&self) -> JudgeAnswer {
-        archive::judge(&self.trace, &self.valuation)
-    }
-}
-
 impl Case for JudgeCase {
+    const NAME: &'static str = "judge";
+
     type Answer = JudgeAnswer;
 
     fn model(&self) -> JudgeAnswer {
         model::judge(&self.trace, &self.valuation)
+    }
+
+    fn ask(&self, calls: &dyn Calls) -> JudgeAnswer {
+        calls.judge(&self.trace, &self.valuation)
     }
 
     fn reply(answer: &JudgeAnswer) -> u32 {
@@ -126,21 +136,21 @@ pub struct TraceCase {
     pub room: usize,
 }
 
-impl TraceCase {
-    pub fn archive(&self) -> Written<TraceAnswer> {
-        let mut outs = lend(self.room);
-        let answer = archive::trace(&self.table, self.bound, &mut outs);
-        Written::new(answer, outs)
-    }
-}
-
 impl Case for TraceCase {
+    const NAME: &'static str = "trace";
+
     type Answer = Written<TraceAnswer>;
 
     fn model(&self) -> Written<TraceAnswer> {
         let mut outs = lend(self.room);
         let answer = model::trace(&self.table, self.bound, &mut outs[0]);
         Written::new::<1>(answer, outs)
+    }
+
+    fn ask(&self, calls: &dyn Calls) -> Written<TraceAnswer> {
+        let mut outs = lend(self.room);
+        let answer = calls.trace(&self.table, self.bound, &mut outs);
+        Written::new(answer, outs)
     }
 
     fn reply(written: &Written<TraceAnswer>) -> u32 {
@@ -175,21 +185,21 @@ pub struct SliceCase {
     pub room: usize,
 }
 
-impl SliceCase {
-    pub fn archive(&self) -> Written<SliceAnswer> {
-        let mut outs = lend(self.room);
-        let answer = archive::slice(&self.trace, &mut outs);
-        Written::new(answer, outs)
-    }
-}
-
 impl Case for SliceCase {
+    const NAME: &'static str = "slice";
+
     type Answer = Written<SliceAnswer>;
 
     fn model(&self) -> Written<SliceAnswer> {
         let mut outs = lend(self.room);
         let answer = model::slice(&self.trace, &mut outs[0]);
         Written::new::<1>(answer, outs)
+    }
+
+    fn ask(&self, calls: &dyn Calls) -> Written<SliceAnswer> {
+        let mut outs = lend(self.room);
+        let answer = calls.slice(&self.trace, &mut outs);
+        Written::new(answer, outs)
     }
 
     fn reply(written: &Written<SliceAnswer>) -> u32 {
@@ -222,7 +232,7 @@ pub struct PrintCase {
 
 impl PrintCase {
     pub fn program(&self) -> Printed {
-        program::print_slice(&self.input())
+        self.archive()
     }
 
     fn input(&self) -> Vec<u8> {
@@ -235,10 +245,16 @@ impl PrintCase {
 }
 
 impl Case for PrintCase {
+    const NAME: &'static str = "print";
+
     type Answer = Printed;
 
     fn model(&self) -> Printed {
         Printed::just(model::print(&self.input()))
+    }
+
+    fn ask(&self, calls: &dyn Calls) -> Printed {
+        calls.print(&self.input())
     }
 
     fn reply(printed: &Printed) -> u32 {

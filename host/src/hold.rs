@@ -1,93 +1,101 @@
-//! Holds calls to known answers, and to the model on generated cases.
+//! Holds calls to known answers, the archive to checks of generated cases, and these cases to what they have to show.
 //!
 //! The variable CASES sets how many are generated, in place of a test's own count, and SEED where they begin.
 
 use std::collections::BTreeMap;
 use std::env;
+use std::io::{self, Write};
 use std::iter;
 
+use crate::answer::Answer;
+use crate::archive::ARCHIVE;
 use crate::case::Case;
 use crate::cases::Known;
-use crate::shrink::shrink;
+use crate::check::{first_failing, seeds, AnyCheck, Asked, Check};
+use crate::command;
 
 pub fn hold_known<C: Case>(call: fn(&C) -> C::Answer, known: Vec<Known<C>>) {
     for Known { name, case, answer } in known {
-        assert_eq!(call(&case), answer, "{name}\n{case}");
+        let differences = call(&case).differences(&answer);
+        let command = command::known(C::NAME, &name);
+        assert!(differences.is_empty(), "{name}; repeat it with\n{command}\n{}\n{case}", differences.join("\n"));
     }
 }
 
-/// One of so many generated cases has to have each reply.
-const REPLY_RARITY: u64 = 500;
+/// Holds the archive to a check, which has to speak of enough cases.
+pub fn hold(check: &dyn AnyCheck) {
+    let mut spoken = 0;
+    let tell = |asked: &Asked| spoken += u64::from(asked.counts);
+    if let Some(seed) = first_failing(check, test_seeds(check.count()), ARCHIVE, tell) {
+        panic!("{}", check.report(seed, ARCHIVE));
+    }
+    let hits = check.speaks_of().map(|(feature, least)| Hits { feature: feature.into(), cases: spoken, least });
+    hold_hits(check, hits);
+}
 
-/// Asks of the generated cases what is due: each of the replies, as the feature "reply 5", and each feature in one of so many cases.
+/// Of 100,000 generated cases so many have to have each reply.
+const REPLY_LEAST: u64 = 200;
+
+/// Asks of a check's cases what is due: each of the replies, as the feature "reply 5", and each feature in so many of 100,000
+/// cases.
 pub fn hold_features<C: Case>(
-    count: u64,
-    generate: fn(u64) -> C,
+    check: &Check<C>,
     features: fn(&C, C::Answer) -> Vec<String>,
     replies: &[u32],
     due: &[(&str, u64)],
 ) {
-    let mut hits = BTreeMap::new();
-    for case in seeds(count).map(generate) {
+    let mut shown = BTreeMap::new();
+    for case in test_seeds(check.count).map(check.generate) {
         let answer = case.model();
         let reply = format!("reply {}", C::reply(&answer));
         for feature in iter::once(reply).chain(features(&case, answer)) {
-            *hits.entry(feature).or_insert(0) += 1;
+            *shown.entry(feature).or_insert(0) += 1;
         }
     }
-    println!("{hits:#?}");
-    let replies = replies.iter().map(|reply| (format!("reply {reply}"), REPLY_RARITY));
-    for (feature, rarity) in replies.chain(due.iter().map(|(feature, rarity)| (feature.to_string(), *rarity))) {
-        let least = case_count(count) / rarity;
-        let hits = hits.get(&feature).copied().unwrap_or(0);
-        assert!(hits >= least, "{feature}: {hits} cases, fewer than {least}");
+    println!("{shown:#?}");
+    let replies = replies.iter().map(|reply| (format!("reply {reply}"), REPLY_LEAST));
+    let due = replies.chain(due.iter().map(|(feature, least)| (feature.to_string(), *least)));
+    hold_hits(
+        check,
+        due.map(|(feature, least)| Hits { cases: shown.get(&feature).copied().unwrap_or(0), feature, least }),
+    );
+}
+
+/// How many cases show a feature, and how many of 100,000 have to.
+struct Hits {
+    feature: String,
+    cases: u64,
+    least: u64,
+}
+
+/// Tells the hits, also where a test's output is not shown, and asks for enough of each.
+fn hold_hits(check: &dyn AnyCheck, hits: impl IntoIterator<Item = Hits>) {
+    let count = case_count(check.count());
+    let mut too_few = Vec::new();
+    for Hits { feature, cases, least } in hits {
+        let least = count * least / 100_000;
+        let line = format!("hit {}: {feature}: {cases} of {count} cases, {least} are due", check.name());
+        writeln!(io::stdout(), "{line}").expect("standard output can be written");
+        if cases < least {
+            too_few.push(line);
+        }
     }
+    assert!(too_few.is_empty(), "too few cases:\n{}", too_few.join("\n"));
 }
 
-/// Asks of a call the model's answer to every generated case.
-pub fn hold_to_model<C: Case>(call: fn(&C) -> C::Answer, count: u64, generate: impl FnMut(u64) -> C) {
-    let differs = |case: &C| call(case) != case.model();
-    if let Some((seed, small)) = first_failure(count, generate, differs) {
-        panic!(
-            "seed {seed} gives a case where call and model differ; made smaller:\n{small}\ncall:  {:?}\nmodel: {:?}",
-            call(&small),
-            small.model(),
-        );
-    }
+fn test_seeds(count: u64) -> impl Iterator<Item = u64> {
+    seeds(first_seed().unwrap_or(1), case_count(count))
 }
 
-/// Asks a property of every generated case.
-pub fn hold_property<C: Case>(count: u64, generate: impl FnMut(u64) -> C, holds: fn(&C) -> bool) {
-    if let Some((seed, small)) = first_failure(count, generate, |case| !holds(case)) {
-        panic!("seed {seed} gives a case without the property; made smaller:\n{small}");
-    }
-}
-
-fn first_failure<C: Case>(
-    count: u64,
-    mut generate: impl FnMut(u64) -> C,
-    fails: impl Fn(&C) -> bool,
-) -> Option<(u64, C)> {
-    let (seed, case) = seeds(count).map(|seed| (seed, generate(seed))).find(|(_, case)| fails(case))?;
-    Some((seed, shrink(case, fails)))
-}
-
-fn seeds(count: u64) -> impl Iterator<Item = u64> {
-    let first = first_seed();
-    (0..case_count(count)).map(move |i| first.wrapping_add(i))
-}
-
-pub fn first_seed() -> u64 {
-    number("SEED", 1)
+pub fn first_seed() -> Option<u64> {
+    number("SEED")
 }
 
 pub fn case_count(default: u64) -> u64 {
-    number("CASES", default)
+    number("CASES").unwrap_or(default)
 }
 
-fn number(variable: &str, default: u64) -> u64 {
-    match env::var(variable) {
-        Ok(text) => text.parse().unwrap_or_else(|_| panic!("{variable} is not a number: {text}")),
-        Err(_) => default,
-    }
+fn number(variable: &str) -> Option<u64> {
+    let text = env::var(variable).ok().filter(|text| !text.is_empty())?;
+    Some(text.parse().unwrap_or_else(|_| panic!("{variable} is not a number: {text}")))
 }

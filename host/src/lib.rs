@@ -1,9 +1,13 @@
 //! Holds libkadvitul.a and the slice printer to a model written from document 01 alone, which shares nothing with them.
 
 pub mod agreement;
+pub mod answer;
 pub mod archive;
 pub mod case;
 pub mod cases;
+pub mod check;
+pub mod checks;
+pub mod command;
 pub mod encoding;
 pub mod generate;
 pub mod hex;

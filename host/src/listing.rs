@@ -1,7 +1,9 @@
 //! Document 01, "A small rule, worked": the text that the slice printer gives for a trace, read back into its bytes.
 
+use std::str::FromStr;
+
 use crate::encoding;
-use crate::statement::{assert, assign, assume, read};
+use crate::statement::{assert, assign, assume, read as symbol_token};
 
 const OPERATORS: [(&str, u8); 18] = [
     ("not", 0x10),
@@ -26,39 +28,44 @@ const OPERATORS: [(&str, u8); 18] = [
 
 /// The trace of a text whose first line is left out.
 pub fn trace<L: AsRef<str>>(inputs: u8, lines: &[L]) -> Vec<u8> {
-    let statements: Vec<Vec<u8>> = lines.iter().map(|line| statement(line.as_ref())).collect();
-    encoding::trace(inputs, &statements)
+    read(inputs, lines).unwrap_or_else(|error| panic!("{error}"))
 }
 
-fn statement(line: &str) -> Vec<u8> {
-    let fields: Vec<&str> = line.split(' ').collect();
-    let place = number(fields[0]) as u16;
-    match fields[1] {
-        "assign" => assign(place, symbol(fields[2]), &expression(&fields[3..])),
-        "assume" => assume(place, &expression(&fields[2..])),
-        "assert" => assert(place, &expression(&fields[2..])),
-        kind => panic!("{kind} is no kind of statement"),
+/// As `trace`, or why there is none.
+pub fn read<L: AsRef<str>>(inputs: u8, lines: &[L]) -> Result<Vec<u8>, String> {
+    let statements: Vec<Vec<u8>> = lines.iter().map(|line| statement(line.as_ref())).collect::<Result<_, _>>()?;
+    Ok(encoding::trace(inputs, &statements))
+}
+
+fn statement(line: &str) -> Result<Vec<u8>, String> {
+    match line.split(' ').collect::<Vec<&str>>()[..] {
+        [place, "assign", new, ref tokens @ ..] => Ok(assign(number(place)?, symbol(new)?, &expression(tokens)?)),
+        [place, "assume", ref tokens @ ..] => Ok(assume(number(place)?, &expression(tokens)?)),
+        [place, "assert", ref tokens @ ..] => Ok(assert(number(place)?, &expression(tokens)?)),
+        _ => Err(format!("{line} is no statement")),
     }
 }
 
-fn expression(tokens: &[&str]) -> Vec<u8> {
-    tokens.iter().flat_map(|token| bytes(token)).collect()
+fn expression(tokens: &[&str]) -> Result<Vec<u8>, String> {
+    let bytes: Vec<Vec<u8>> = tokens.iter().map(|token| bytes(token)).collect::<Result<_, _>>()?;
+    Ok(bytes.concat())
 }
 
-fn bytes(token: &str) -> Vec<u8> {
+fn bytes(token: &str) -> Result<Vec<u8>, String> {
     if let Some((_, operator)) = OPERATORS.iter().find(|(name, _)| *name == token) {
-        return vec![*operator];
+        return Ok(vec![*operator]);
     }
     if token.starts_with('s') {
-        return read(symbol(token));
+        return symbol(token).map(symbol_token);
     }
-    [&[0x01][..], &number(token).to_be_bytes()].concat()
+    let word: u32 = number(token)?;
+    Ok([&[0x01][..], &word.to_be_bytes()].concat())
 }
 
-fn symbol(token: &str) -> u16 {
-    token.strip_prefix('s').map_or_else(|| panic!("{token} is no symbol"), number) as u16
+fn symbol(token: &str) -> Result<u16, String> {
+    token.strip_prefix('s').map_or_else(|| Err(format!("{token} is no symbol")), number)
 }
 
-fn number(field: &str) -> u32 {
-    field.parse().unwrap_or_else(|_| panic!("{field} is no number"))
+fn number<N: FromStr>(field: &str) -> Result<N, String> {
+    field.parse().map_err(|_| format!("{field} is no number"))
 }

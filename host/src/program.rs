@@ -1,14 +1,13 @@
 //! The slice printer, run as the program that `rt check print_slice` builds.
 
-use std::fmt::{self, Debug};
 use std::io::{ErrorKind, Write};
+use std::path::Path;
 use std::process::{ChildStdin, Command, Stdio};
 use std::thread;
 
 const PROGRAM: &str = concat!(env!("CARGO_MANIFEST_DIR"), "/../target/bin/print_slice");
 
 /// What the program leaves.
-#[derive(Clone, PartialEq, Eq)]
 pub struct Printed {
     /// Its standard output.
     pub text: Vec<u8>,
@@ -24,19 +23,19 @@ impl Printed {
     }
 }
 
-impl Debug for Printed {
-    fn fmt(&self, f: &mut fmt::Formatter) -> fmt::Result {
-        let error = if self.is_error_empty { "nothing" } else { "something" };
-        writeln!(f, "exit status {:?}, {error} on standard error, and", self.exit_status)?;
-        write!(f, "{}", String::from_utf8_lossy(&self.text))
+/// Says what is missing.
+pub fn find() -> Result<(), String> {
+    if Path::new(PROGRAM).is_file() {
+        return Ok(());
     }
+    Err("target/bin/print_slice is missing; `rt check print_slice` builds it".into())
 }
 
 pub fn print_slice(input: &[u8]) -> Printed {
+    find().unwrap_or_else(|missing| panic!("{missing}"));
     let mut command = Command::new(PROGRAM);
     command.stdin(Stdio::piped()).stdout(Stdio::piped()).stderr(Stdio::piped());
-    let mut program =
-        command.spawn().unwrap_or_else(|error| panic!("{PROGRAM}: {error}; run `rt check print_slice` first"));
+    let mut program = command.spawn().unwrap_or_else(|error| panic!("{PROGRAM}: {error}"));
     let stdin = program.stdin.take().expect("standard input is piped");
     let output = thread::scope(|scope| {
         scope.spawn(|| feed(stdin, input));

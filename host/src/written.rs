@@ -1,24 +1,20 @@
 //! Buffers lent to the calls that write, and what is left in them.
 
 use std::array;
-use std::fmt::{self, Debug};
 
 /// No trace has more bytes.
 pub const LENGTH_LIMIT: usize = 65_535;
 
 /// An answer, and what its calls left in the buffers lent to them.
-#[derive(Clone, PartialEq, Eq)]
 pub struct Written<A> {
     pub answer: A,
-    /// One buffer, unless calls differ.
-    outs: Vec<Vec<u8>>,
+    /// One for each call, in their order, or one that is expected of all.
+    pub outs: Vec<Vec<u8>>,
 }
 
 impl<A> Written<A> {
     pub fn new<const N: usize>(answer: A, outs: [Vec<u8>; N]) -> Written<A> {
-        let mut outs = Vec::from(outs);
-        outs.dedup();
-        Written { answer, outs }
+        Written { answer, outs: outs.into() }
     }
 
     /// What is written from the first byte of a buffer of so many bytes, which is left as it was behind that.
@@ -26,13 +22,6 @@ impl<A> Written<A> {
         let mut outs: [Vec<u8>; 1] = lend(room);
         outs[0][..bytes.len()].copy_from_slice(bytes);
         Written::new(answer, outs)
-    }
-}
-
-impl<A: Debug> Debug for Written<A> {
-    fn fmt(&self, f: &mut fmt::Formatter) -> fmt::Result {
-        write!(f, "{:?}", self.answer)?;
-        self.outs.iter().try_for_each(|out| write!(f, "\n  out: {out:02X?}"))
     }
 }
 

@@ -2,9 +2,9 @@
 
 use host::case::{Case, JudgeCase};
 use host::cases::judging as cases;
+use host::checks;
 use host::encoding;
-use host::generate;
-use host::hold::{hold_features, hold_known, hold_to_model};
+use host::hold::{hold, hold_features, hold_known};
 use host::model::{self, JudgeAnswer};
 use host::parts::Parts;
 
@@ -12,25 +12,22 @@ const ASSIGN: u8 = 1;
 const ASSUME: u8 = 2;
 const ASSERT: u8 = 3;
 
-/// How many cases are generated for a test.
-const CASES: u64 = 100_000;
-
 /// The replies that generated cases have to reach.
 const REPLIES: [u32; 9] = [0, 1, 2, 3, 4, 5, 6, 7, 11];
 
-/// What generated cases have to show, one in so many.
+/// What generated cases have to show, so many of 100,000.
 const DUE: [(&str, u64); 11] = [
-    ("reply 5, a false Assert before", 500),
-    ("reply 6, a false Assert before", 500),
-    ("reply 7, a false Assert before", 500),
-    ("safe", 500),
-    ("safe, a false Assert behind a false Assume", 500),
-    ("unsafe", 500),
-    ("unsafe, a false Assume behind the false Assert", 500),
-    ("unsafe, place 65535", 500),
-    ("accepted, symbol S + 4,095 assigned", 500),
-    ("accepted, 4,000 statements or more", 5_000),
-    ("accepted, 65,000 bytes or more", 10_000),
+    ("reply 5, a false Assert before", 200),
+    ("reply 6, a false Assert before", 200),
+    ("reply 7, a false Assert before", 200),
+    ("safe", 200),
+    ("safe, a false Assert behind a false Assume", 200),
+    ("unsafe", 200),
+    ("unsafe, a false Assume behind the false Assert", 200),
+    ("unsafe, place 65535", 200),
+    ("accepted, symbol S + 4,095 assigned", 200),
+    ("accepted, 4,000 statements or more", 20),
+    ("accepted, 65,000 bytes or more", 10),
 ];
 
 #[test]
@@ -95,12 +92,12 @@ fn every_unknown_token_is_refused_7_by_the_archive() {
 
 #[test]
 fn the_generated_cases_reach_every_reply_both_verdicts_and_what_they_hide() {
-    hold_features(CASES, generate::judge_case, features, &REPLIES, &DUE);
+    hold_features(&checks::JUDGE, features, &REPLIES, &DUE);
 }
 
 #[test]
 fn the_archive_gives_the_models_answer_on_every_case() {
-    hold_to_model(JudgeCase::archive, CASES, generate::judge_case);
+    hold(&checks::JUDGE);
 }
 
 /// What a case shows, in the words of `DUE`.

@@ -2,50 +2,45 @@
 
 use std::collections::BTreeSet;
 
-use host::agreement::{archive_slice, archive_trace};
 use host::case::{Case, PrintCase};
 use host::cases::printing as cases;
-use host::generate;
-use host::hold::{hold_features, hold_known, hold_property, hold_to_model};
-use host::listing;
+use host::checks;
+use host::hold::{hold, hold_features, hold_known};
 use host::program::Printed;
-
-/// How many cases are generated for a test; each starts the program.
-const CASES: u64 = 3_000;
 
 /// The replies that generated cases have to reach. No byte K is refused 8.
 const REPLIES: [u32; 8] = [1, 2, 3, 4, 5, 6, 7, 9];
 
-/// What generated cases have to show, one in so many.
+/// What generated cases have to show, so many of 100,000.
 const DUE: [(&str, u64); 28] = [
-    ("printed", 10),
-    ("printed, assign", 10),
-    ("printed, assume", 10),
-    ("printed, assert", 10),
-    ("printed, nothing kept", 100),
-    ("printed, K: 0", 50),
-    ("printed, K: 1 to 9", 50),
-    ("printed, K: 10 to 255", 50),
-    ("printed, 10,000 bytes or more", 50),
-    ("printed, 100,000 bytes or more", 1_000),
-    ("printed, not", 50),
-    ("printed, neg", 50),
-    ("printed, zero", 50),
-    ("printed, add", 50),
-    ("printed, sub", 50),
-    ("printed, mul", 50),
-    ("printed, udiv", 50),
-    ("printed, urem", 50),
-    ("printed, and", 50),
-    ("printed, or", 50),
-    ("printed, xor", 50),
-    ("printed, shl", 50),
-    ("printed, lshr", 50),
-    ("printed, equal", 50),
-    ("printed, ult", 50),
-    ("printed, ule", 50),
-    ("printed, slt", 50),
-    ("printed, ite", 50),
+    ("printed", 10_000),
+    ("printed, assign", 10_000),
+    ("printed, assume", 10_000),
+    ("printed, assert", 10_000),
+    ("printed, nothing kept", 1_000),
+    ("printed, K: 0", 2_000),
+    ("printed, K: 1 to 9", 2_000),
+    ("printed, K: 10 to 255", 2_000),
+    ("printed, 10,000 bytes or more", 2_000),
+    ("printed, 100,000 bytes or more", 100),
+    ("printed, not", 2_000),
+    ("printed, neg", 2_000),
+    ("printed, zero", 2_000),
+    ("printed, add", 2_000),
+    ("printed, sub", 2_000),
+    ("printed, mul", 2_000),
+    ("printed, udiv", 2_000),
+    ("printed, urem", 2_000),
+    ("printed, and", 2_000),
+    ("printed, or", 2_000),
+    ("printed, xor", 2_000),
+    ("printed, shl", 2_000),
+    ("printed, lshr", 2_000),
+    ("printed, equal", 2_000),
+    ("printed, ult", 2_000),
+    ("printed, ule", 2_000),
+    ("printed, slt", 2_000),
+    ("printed, ite", 2_000),
 ];
 
 /// A text has no more bytes than this, six for each of a trace's.
@@ -120,30 +115,17 @@ fn the_longest_text_known_is_327416_bytes_long() {
 
 #[test]
 fn the_generated_cases_reach_every_refusal_that_can_be_every_kind_and_every_name() {
-    hold_features(CASES, generate::print_case, features, &REPLIES, &DUE);
+    hold_features(&checks::PRINT, features, &REPLIES, &DUE);
 }
 
 #[test]
 fn the_program_prints_the_models_text_on_every_case() {
-    hold_to_model(PrintCase::program, CASES, generate::print_case);
+    hold(&checks::PRINT);
 }
 
 #[test]
 fn what_the_program_prints_read_back_is_the_slice_that_the_archive_writes() {
-    hold_property(CASES, generate::print_case, |case| {
-        let trace = archive_trace(&case.table, case.bound.expect("generated cases have a bound"));
-        trace.is_empty() || is_text_of(&archive_slice(&trace), &case.program().text)
-    });
-}
-
-fn is_text_of(slice: &[u8], text: &[u8]) -> bool {
-    let text = String::from_utf8_lossy(text);
-    let lines: Vec<&str> = text.lines().collect();
-    let Some((first, statements)) = lines.split_first() else {
-        return false;
-    };
-    let count = u16::from_be_bytes([slice[4], slice[5]]);
-    *first == format!("inputs {} statements {count}", slice[3]) && listing::trace(slice[3], statements) == slice
+    hold(&checks::PRINT_READ);
 }
 
 /// What a case shows, in the words of `DUE`.

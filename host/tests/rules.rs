@@ -1,7 +1,6 @@
 //! The sample rules of `rules/`, through the archive: what their stories say of them.
 
-use host::agreement::{archive_mask, archive_slice, archive_trace};
-use host::archive;
+use host::archive::ARCHIVE;
 use host::hex;
 use host::parts::Parts;
 
@@ -16,16 +15,16 @@ fn table(text: &str) -> Vec<u8> {
 }
 
 fn slice(text: &str, bound: u64) -> Vec<u8> {
-    archive_slice(&archive_trace(&table(text), bound))
+    ARCHIVE.whole_slice(&ARCHIVE.whole_trace(&table(text), bound))
 }
 
 /// Verdict and place of running a rule, judging its trace and judging the slice.
 fn verdicts(text: &str, bound: u64, words: &[u32]) -> [(u32, u32); 3] {
     let valuation: Vec<u8> = words.iter().flat_map(|word| word.to_be_bytes()).collect();
-    let trace = archive_trace(&table(text), bound);
-    let run = archive::run(&table(text), bound, &valuation);
-    let judged = archive::judge(&trace, &valuation);
-    let sliced = archive::judge(&archive_slice(&trace), &valuation);
+    let trace = ARCHIVE.whole_trace(&table(text), bound);
+    let run = ARCHIVE.run(&table(text), bound, &valuation);
+    let judged = ARCHIVE.judge(&trace, &valuation);
+    let sliced = ARCHIVE.judge(&ARCHIVE.whole_slice(&trace), &valuation);
     assert_eq!([run.reply, judged.reply, sliced.reply], [0; 3]);
     [(run.verdict, run.place), (judged.verdict, judged.place), (sliced.verdict, sliced.place)]
 }
@@ -39,10 +38,10 @@ fn statements(trace: &[u8]) -> Vec<(u8, u16)> {
 #[test]
 fn every_rule_is_accepted_but_the_one_that_is_refused() {
     for text in [SMALL, MARCH, NEWER, STATIONS] {
-        assert_eq!(archive::trace_reply(&table(text), 3, &mut vec![0; 65_535]), 0);
+        assert_eq!(ARCHIVE.trace_reply(&table(text), 3, &mut vec![0; 65_535]), 0);
     }
-    assert_eq!(archive::trace_reply(&table(REFUSED), 3, &mut []), 6);
-    assert_eq!(archive::trace_offset(&table(REFUSED), 3, &mut []), 6);
+    assert_eq!(ARCHIVE.trace_reply(&table(REFUSED), 3, &mut []), 6);
+    assert_eq!(ARCHIVE.trace_offset(&table(REFUSED), 3, &mut []), 6);
 }
 
 #[test]
@@ -83,7 +82,7 @@ fn the_merged_copy_is_not_newer_without_the_assume() {
 
 #[test]
 fn one_fault_of_64_stations_is_found_and_every_input_is_read() {
-    assert_eq!(archive_mask(&archive_trace(&table(STATIONS), 0)), u64::MAX);
+    assert_eq!(ARCHIVE.mask(&ARCHIVE.whole_trace(&table(STATIONS), 0)), u64::MAX);
     assert_eq!(verdicts(STATIONS, 3, &[0; 64]), [(0, 0); 3]);
     for station in 0..64 {
         let mut words = [0; 64];

@@ -2,29 +2,26 @@
 
 use host::case::{Case, RunCase};
 use host::cases::running as cases;
-use host::generate;
-use host::hold::{hold_features, hold_known, hold_to_model};
+use host::checks;
+use host::hold::{hold, hold_features, hold_known};
 use host::model::RunAnswer;
-
-/// How many cases are generated for a test.
-const CASES: u64 = 100_000;
 
 /// The replies that generated cases have to reach.
 const REPLIES: [u32; 10] = [0, 1, 2, 3, 4, 5, 6, 7, 8, 11];
 
-/// What generated cases have to show, one in so many.
+/// What generated cases have to show, so many of 100,000.
 const DUE: [(&str, u64); 11] = [
-    ("safe", 500),
-    ("safe, back jumps: 1", 500),
-    ("safe, back jumps: 2 to 9", 500),
-    ("safe, back jumps: 10 to 99", 500),
-    ("safe, a bound above 0 used up", 500),
-    ("unsafe", 500),
-    ("unsafe, back jumps: 1", 500),
-    ("unsafe, back jumps: 2 to 9", 500),
-    ("unsafe, a bound above 0 used up", 500),
-    ("accepted, 1,000 instructions or more", 5_000),
-    ("accepted, 65,000 bytes or more", 10_000),
+    ("safe", 200),
+    ("safe, back jumps: 1", 200),
+    ("safe, back jumps: 2 to 9", 200),
+    ("safe, back jumps: 10 to 99", 200),
+    ("safe, a bound above 0 used up", 200),
+    ("unsafe", 200),
+    ("unsafe, back jumps: 1", 200),
+    ("unsafe, back jumps: 2 to 9", 200),
+    ("unsafe, a bound above 0 used up", 200),
+    ("accepted, 1,000 instructions or more", 20),
+    ("accepted, 65,000 bytes or more", 10),
 ];
 
 #[test]
@@ -94,12 +91,12 @@ fn a_table_of_1024_asserts_has_5126_bytes() {
 
 #[test]
 fn the_generated_cases_reach_every_reply_both_verdicts_and_later_copies() {
-    hold_features(CASES, generate::run_case, features, &REPLIES, &DUE);
+    hold_features(&checks::RUN, features, &REPLIES, &DUE);
 }
 
 #[test]
 fn the_archive_gives_the_models_answer_on_every_case() {
-    hold_to_model(RunCase::archive, CASES, generate::run_case);
+    hold(&checks::RUN);
 }
 
 /// What a case shows, in the words of `DUE`.

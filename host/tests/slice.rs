@@ -1,11 +1,9 @@
 //! Slicing a trace: document 01's cases, the archive against the model on generated ones, and what slices are for.
 
-use host::agreement::{archive_mask, archive_slice, unread_changed};
-use host::archive;
 use host::case::{Case, JudgeCase, SliceCase};
 use host::cases::{slicing as cases, traces};
-use host::generate;
-use host::hold::{hold_features, hold_known, hold_property, hold_to_model};
+use host::checks;
+use host::hold::{hold, hold_features, hold_known};
 use host::model::{self, JudgeAnswer, SliceAnswer};
 use host::parts::Parts;
 use host::statement::assign;
@@ -15,49 +13,46 @@ const ASSIGN: u8 = 1;
 const ASSUME: u8 = 2;
 const ASSERT: u8 = 3;
 
-/// How many cases are generated for a test.
-const CASES: u64 = 40_000;
-
 /// The replies that generated cases have to reach.
 const REPLIES: [u32; 8] = [1, 2, 3, 4, 5, 6, 7, 10];
 
-/// What generated cases have to show, one in so many.
+/// What generated cases have to show, so many of 100,000.
 const DUE: [(&str, u64); 23] = [
-    ("reply 0", 10),
-    ("reply 10, no room", 500),
-    ("reply 10, a byte too little room", 500),
-    ("reply 0, the exact room", 500),
-    ("reply 0, a byte more room", 500),
-    ("reply 0, much more room", 500),
-    ("reply 0, of a table", 10),
-    ("reply 0, of no table", 10),
-    ("reply 0, all kept", 500),
-    ("reply 0, nothing kept", 500),
-    ("reply 0, an Assign kept", 10),
-    ("reply 0, an Assign dropped before an Assert", 20),
-    ("reply 0, an Assign dropped behind the last Assert", 20),
-    ("reply 0, an Assume kept", 20),
-    ("reply 0, an Assume dropped", 20),
-    ("reply 0, no input read", 500),
-    ("reply 0, some inputs read", 500),
-    ("reply 0, all of two inputs or more read", 500),
-    ("reply 0, input 63 read", 500),
-    ("reply 0, symbol S + 4,095 kept", 500),
-    ("reply 0, 1,000 statements or more", 500),
-    ("reply 0, 4,000 statements or more", 5_000),
-    ("reply 0, 65,000 bytes or more", 2_000),
+    ("reply 0", 10_000),
+    ("reply 10, no room", 200),
+    ("reply 10, a byte too little room", 200),
+    ("reply 0, the exact room", 200),
+    ("reply 0, a byte more room", 200),
+    ("reply 0, much more room", 200),
+    ("reply 0, of a table", 10_000),
+    ("reply 0, of no table", 10_000),
+    ("reply 0, all kept", 200),
+    ("reply 0, nothing kept", 200),
+    ("reply 0, an Assign kept", 10_000),
+    ("reply 0, an Assign dropped before an Assert", 5_000),
+    ("reply 0, an Assign dropped behind the last Assert", 5_000),
+    ("reply 0, an Assume kept", 5_000),
+    ("reply 0, an Assume dropped", 5_000),
+    ("reply 0, no input read", 200),
+    ("reply 0, some inputs read", 200),
+    ("reply 0, all of two inputs or more read", 200),
+    ("reply 0, input 63 read", 200),
+    ("reply 0, symbol S + 4,095 kept", 200),
+    ("reply 0, 1,000 statements or more", 200),
+    ("reply 0, 4,000 statements or more", 20),
+    ("reply 0, 65,000 bytes or more", 50),
 ];
 
-/// What judged traces have to show, one in so many.
+/// What judged traces have to show, so many of 100,000.
 const JUDGED_DUE: [(&str, u64); 8] = [
-    ("of a table, safe", 10),
-    ("of a table, unsafe", 50),
-    ("of no table, safe", 10),
-    ("of no table, unsafe", 50),
-    ("of a table, some inputs not read", 50),
-    ("of no table, some inputs not read", 50),
-    ("of a table, unsafe, some inputs not read", 500),
-    ("of no table, unsafe, some inputs not read", 500),
+    ("of a table, safe", 10_000),
+    ("of a table, unsafe", 2_000),
+    ("of no table, safe", 10_000),
+    ("of no table, unsafe", 2_000),
+    ("of a table, some inputs not read", 2_000),
+    ("of no table, some inputs not read", 2_000),
+    ("of a table, unsafe, some inputs not read", 200),
+    ("of no table, unsafe, some inputs not read", 200),
 ];
 
 #[test]
@@ -121,41 +116,32 @@ fn the_small_rules_slice_has_102_bytes_and_reads_its_input() {
 
 #[test]
 fn the_generated_cases_reach_every_reply_every_kind_of_room_and_what_is_kept() {
-    hold_features(CASES, generate::slice_case, features, &REPLIES, &DUE);
+    hold_features(&checks::SLICE, features, &REPLIES, &DUE);
 }
 
 #[test]
 fn the_archive_gives_the_models_answer_and_bytes_on_every_case() {
-    hold_to_model(SliceCase::archive, CASES, generate::slice_case);
+    hold(&checks::SLICE);
 }
 
 #[test]
 fn the_generated_judgements_reach_both_verdicts_and_inputs_that_slices_do_not_read() {
-    hold_features(CASES, generate::sliced_judge_case, judged_features, &[], &JUDGED_DUE);
+    hold_features(&checks::SLICE_JUDGED, judged_features, &[], &JUDGED_DUE);
 }
 
 #[test]
 fn a_trace_and_its_slice_are_judged_alike() {
-    hold_property(CASES, generate::sliced_judge_case, |case| {
-        let slice = archive_slice(&case.trace);
-        slice.is_empty() || archive::judge(&slice, &case.valuation) == case.archive()
-    });
+    hold(&checks::SLICE_JUDGED);
 }
 
 #[test]
 fn inputs_that_a_slice_does_not_read_change_neither_verdict_nor_place() {
-    hold_property(CASES, generate::sliced_judge_case, |case| {
-        let judged = case.archive();
-        unread_changed(case, archive_mask(&case.trace)).iter().all(|changed| changed.archive() == judged)
-    });
+    hold(&checks::SLICE_UNREAD);
 }
 
 #[test]
 fn slicing_a_slice_changes_nothing() {
-    hold_property(CASES, generate::sliced_judge_case, |case| {
-        let slice = archive_slice(&case.trace);
-        archive_slice(&slice) == slice && archive_mask(&slice) == archive_mask(&case.trace)
-    });
+    hold(&checks::SLICE_TWICE);
 }
 
 /// What a case shows, in the words of `DUE`.

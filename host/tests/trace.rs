@@ -1,47 +1,44 @@
 //! Writing a trace: document 01's cases, the archive against the model on generated ones, and against its own running.
 
-use host::agreement::{self, archive_trace};
+use host::archive::ARCHIVE;
 use host::case::{Case, RunCase, TraceCase};
 use host::cases::{running, unwinding as cases};
-use host::generate;
-use host::hold::{hold_features, hold_known, hold_property, hold_to_model};
+use host::checks;
+use host::hold::{hold, hold_features, hold_known};
 use host::model::{self, RunAnswer, TraceAnswer};
 use host::written::{fit, whole, Written, LENGTH_LIMIT};
-
-/// How many cases are generated for a test.
-const CASES: u64 = 80_000;
 
 /// The replies that generated cases have to reach.
 const REPLIES: [u32; 10] = [1, 2, 3, 4, 5, 6, 7, 8, 9, 10];
 
-/// What generated cases have to show, one in so many.
+/// What generated cases have to show, so many of 100,000.
 const DUE: [(&str, u64); 16] = [
-    ("reply 0", 10),
-    ("reply 9, over 4,096 statements", 500),
-    ("reply 9, at most 4,096 statements", 500),
-    ("reply 10, a byte too little room", 500),
-    ("reply 10, no room", 500),
-    ("reply 0, K: 0", 500),
-    ("reply 0, K: 1 to 9", 500),
-    ("reply 0, K: 10 to 99", 500),
-    ("reply 0, K: 100 to 255", 500),
-    ("reply 0, the exact room", 500),
-    ("reply 0, a byte more room", 500),
-    ("reply 0, much more room", 500),
-    ("reply 0, 1,000 instructions or more", 10_000),
-    ("reply 0, 1,000 statements or more", 500),
-    ("reply 0, 65,000 bytes or more", 500),
-    ("reply 0, 65,535 bytes", 5_000),
+    ("reply 0", 10_000),
+    ("reply 9, over 4,096 statements", 200),
+    ("reply 9, at most 4,096 statements", 200),
+    ("reply 10, a byte too little room", 200),
+    ("reply 10, no room", 200),
+    ("reply 0, K: 0", 200),
+    ("reply 0, K: 1 to 9", 200),
+    ("reply 0, K: 10 to 99", 200),
+    ("reply 0, K: 100 to 255", 200),
+    ("reply 0, the exact room", 200),
+    ("reply 0, a byte more room", 200),
+    ("reply 0, much more room", 200),
+    ("reply 0, 1,000 instructions or more", 10),
+    ("reply 0, 1,000 statements or more", 200),
+    ("reply 0, 65,000 bytes or more", 200),
+    ("reply 0, 65,535 bytes", 20),
 ];
 
-/// What runs have to show beside written traces, one in so many.
+/// What runs have to show beside written traces, so many of 100,000.
 const RUNS_DUE: [(&str, u64); 6] = [
-    ("safe", 10),
-    ("safe, back jumps taken", 100),
-    ("safe, a bound above 0 used up", 500),
-    ("unsafe", 20),
-    ("unsafe, back jumps taken", 100),
-    ("a trace, refused 11", 100),
+    ("safe", 10_000),
+    ("safe, back jumps taken", 1_000),
+    ("safe, a bound above 0 used up", 200),
+    ("unsafe", 5_000),
+    ("unsafe, back jumps taken", 1_000),
+    ("a trace, refused 11", 1_000),
 ];
 
 #[test]
@@ -121,22 +118,22 @@ fn a_table_of_1024_asserts_has_2051_statements_in_47172_bytes_for_one_back_jump(
 
 #[test]
 fn the_generated_cases_reach_every_reply_every_kind_of_room_and_both_limits() {
-    hold_features(CASES, generate::trace_case, features, &REPLIES, &DUE);
+    hold_features(&checks::TRACE, features, &REPLIES, &DUE);
 }
 
 #[test]
 fn the_archive_gives_the_models_answer_and_bytes_on_every_case() {
-    hold_to_model(TraceCase::archive, CASES, generate::trace_case);
+    hold(&checks::TRACE);
 }
 
 #[test]
 fn the_generated_runs_with_a_trace_reach_both_verdicts_and_later_copies() {
-    hold_features(CASES, generate::run_case, run_features, &[], &RUNS_DUE);
+    hold_features(&checks::DEMAND_3, run_features, &[], &RUNS_DUE);
 }
 
 #[test]
 fn running_a_table_judging_its_trace_and_judging_the_slice_give_one_verdict_and_place() {
-    hold_property(CASES, generate::run_case, agreement::is_met);
+    hold(&checks::DEMAND_3);
 }
 
 /// Empty where there is none.
@@ -145,7 +142,7 @@ fn model_trace(table: &[u8], bound: u64) -> Vec<u8> {
 }
 
 fn hold_size(table: &[u8], bound: u64, statements: u16, length: usize) {
-    for (whose, trace) in [("model", model_trace(table, bound)), ("archive", archive_trace(table, bound))] {
+    for (whose, trace) in [("model", model_trace(table, bound)), ("archive", ARCHIVE.whole_trace(table, bound))] {
         let size = (u16::from_be_bytes([trace[4], trace[5]]), trace.len());
         assert_eq!(size, (statements, length), "the {whose}'s trace");
     }

@@ -1,66 +1,131 @@
-//! Any number of generated cases: each call held to the model, then demand 3 on the archive. CASES says how many of each,
-//! SEED where they begin; a failing case is made smaller and printed with its seed, which repeats it with CASES=1.
+//! Any number of generated cases for every check, of the archive and of the slice printer. CASES says how many, SEED where
+//! they begin, in place of the clock. CASE names one check, of which the case of SEED alone is asked, or a call, of which
+//! the case KNOWN by that name is.
 
 use std::collections::BTreeMap;
-use std::time::{Duration, Instant};
+use std::env;
+use std::process::ExitCode;
+use std::time::{Duration, Instant, SystemTime, UNIX_EPOCH};
 
-use host::case::{Case, JudgeCase, RunCase, SliceCase, TraceCase};
-use host::hold::{case_count, first_seed, hold_property, hold_to_model};
-use host::{agreement, generate};
+use host::archive::ARCHIVE;
+use host::case::{Case, JudgeCase, PrintCase, RunCase, SliceCase, TraceCase};
+use host::cases::{judging, printing, running, slicing, unwinding, Known};
+use host::check::{first_failing, seeds, AnyCheck, Asked};
+use host::hold::{case_count, first_seed, hold_known};
+use host::{checks, program};
 
-/// How many cases of each are generated.
+/// How many cases of each check are generated.
 const CASES: u64 = 100_000;
+/// Starting the program takes as long as so many cases of the archive.
+const PROGRAM_COST: u64 = 20;
 /// How often progress is told.
-const INTERVAL: Duration = Duration::from_secs(5);
+const INTERVAL: Duration = Duration::from_secs(10);
 
-fn main() {
-    println!("soak: {} cases of each, from seed {}", case_count(CASES), first_seed());
-    let tallies = [
-        soak_call("run", RunCase::archive, generate::run_case),
-        soak_call("judge", JudgeCase::archive, generate::judge_case),
-        soak_call("trace", TraceCase::archive, generate::trace_case),
-        soak_call("slice", SliceCase::archive, generate::slice_case),
-        soak_demand3(),
-    ];
-    for tally in tallies {
-        tally.print();
+fn main() -> ExitCode {
+    let holds = match (env::var("CASE"), env::var("KNOWN")) {
+        (Ok(case), Ok(name)) => repeat_known(&case, &name),
+        (Ok(case), Err(_)) => repeat(&case),
+        _ => soak(),
+    };
+    if holds {
+        ExitCode::SUCCESS
+    } else {
+        ExitCode::FAILURE
     }
 }
 
-fn soak_call<C: Case>(name: &'static str, call: fn(&C) -> C::Answer, generate: fn(u64) -> C) -> Tally {
-    let mut tally = Tally::new(name);
-    hold_to_model(call, CASES, |seed| tally.count(generate(seed)));
-    tally
+/// Goes on with the next check where one fails.
+fn soak() -> bool {
+    let seed = first_seed().unwrap_or_else(clock);
+    let count = case_count(CASES);
+    println!("soak: from seed {seed} on, where SEED={seed} begins again");
+    let of_archive = checks::OF_ARCHIVE.map(|check| soak_check(check, seed, count));
+    of_archive.iter().all(|holds| *holds) & soak_program(seed, count.div_ceil(PROGRAM_COST))
 }
 
-/// The replies are those of running.
-fn soak_demand3() -> Tally {
-    let mut tally = Tally::new("demand 3");
-    hold_property(CASES, |seed| tally.count(generate::run_case(seed)), agreement::is_met);
-    tally
+fn soak_program(seed: u64, count: u64) -> bool {
+    if let Err(missing) = program::find() {
+        println!("print: not tried, as {missing}");
+        return true;
+    }
+    checks::OF_PROGRAM.map(|check| soak_check(check, seed, count)).iter().all(|holds| *holds)
 }
 
-/// How many cases have been generated, and how many of each reply.
-struct Tally {
-    name: &'static str,
+fn soak_check(check: &dyn AnyCheck, seed: u64, count: u64) -> bool {
+    let mut tally = Tally::new(check, count);
+    let failing = first_failing(check, seeds(seed, count), ARCHIVE, |asked| tally.count(asked));
+    match failing {
+        Some(seed) => println!("{}", check.report(seed, ARCHIVE)),
+        None => tally.print(),
+    }
+    failing.is_none()
+}
+
+/// A seed that hardly any soak has begun with.
+fn clock() -> u64 {
+    let now = SystemTime::now().duration_since(UNIX_EPOCH);
+    now.map_or(1, |now| now.as_micros() as u64)
+}
+
+fn repeat(name: &str) -> bool {
+    let mut all = checks::OF_ARCHIVE.into_iter().chain(checks::OF_PROGRAM);
+    let check = all.find(|check| check.name() == name).unwrap_or_else(|| panic!("CASE names no check: {name}"));
+    let seed = first_seed().expect("CASE asks for a SEED");
+    let holds = check.ask_seed(seed, ARCHIVE).wrong.is_empty();
+    if holds {
+        println!("{name}: the case of seed {seed} holds");
+    } else {
+        println!("{}", check.report(seed, ARCHIVE));
+    }
+    holds
+}
+
+/// Fails with what differs.
+fn repeat_known(case: &str, name: &str) -> bool {
+    match case {
+        RunCase::NAME => hold_named(running::all, name),
+        JudgeCase::NAME => hold_named(judging::all, name),
+        TraceCase::NAME => hold_named(unwinding::all, name),
+        SliceCase::NAME => hold_named(slicing::all, name),
+        PrintCase::NAME => hold_named(printing::all, name),
+        _ => panic!("CASE names no call: {case}"),
+    }
+    true
+}
+
+/// Asks the model too.
+fn hold_named<C: Case>(all: fn() -> Vec<Known<C>>, name: &str) {
+    let named = || -> Vec<Known<C>> { all().into_iter().filter(|known| known.name == name).collect() };
+    assert!(!named().is_empty(), "KNOWN names no case of {}: {name}", C::NAME);
+    hold_known(C::model, named());
+    hold_known(C::archive, named());
+    println!("{}: {name}: the answer is the known one", C::NAME);
+}
+
+/// How many cases a check has been asked of, how many of these it speaks of, and how many have each reply.
+struct Tally<'a> {
+    check: &'a dyn AnyCheck,
+    due: u64,
+    spoken: u64,
     replies: BTreeMap<u32, u64>,
     start: Instant,
     told: Instant,
 }
 
-impl Tally {
-    fn new(name: &'static str) -> Tally {
+impl Tally<'_> {
+    fn new(check: &dyn AnyCheck, due: u64) -> Tally<'_> {
         let start = Instant::now();
-        Tally { name, replies: BTreeMap::new(), start, told: start }
+        Tally { check, due, spoken: 0, replies: BTreeMap::new(), start, told: start }
     }
 
-    fn count<C: Case>(&mut self, case: C) -> C {
-        *self.replies.entry(C::reply(&case.model())).or_insert(0) += 1;
+    fn count(&mut self, asked: &Asked) {
+        *self.replies.entry(asked.reply).or_insert(0) += 1;
+        self.spoken += u64::from(asked.counts);
         if self.told.elapsed() > INTERVAL {
             self.told = Instant::now();
-            println!("{}: {} cases, {} s", self.name, self.total(), self.start.elapsed().as_secs());
+            let [total, due, seconds] = [self.total(), self.due, self.start.elapsed().as_secs()];
+            println!("{}: {total} of {due} cases, {} %, {seconds} s", self.check.name(), 100 * total / due);
         }
-        case
     }
 
     fn total(&self) -> u64 {
@@ -68,9 +133,10 @@ impl Tally {
     }
 
     fn print(&self) {
-        println!("{}: {} cases hold", self.name, self.total());
-        for (reply, count) in &self.replies {
-            println!("  reply {reply:>2}: {count:>9}");
+        let replies: Vec<String> = self.replies.iter().map(|(reply, count)| format!("{reply}: {count}")).collect();
+        println!("{}: {} cases hold; by reply {}", self.check.name(), self.total(), replies.join(", "));
+        if let Some((feature, _)) = self.check.speaks_of() {
+            println!("{}: {} of them have {feature}", self.check.name(), self.spoken);
         }
     }
 }

@@ -11,6 +11,10 @@ type KnownJudgement = Known<JudgeCase>;
 const NOT: u8 = 0x10;
 const NEG: u8 = 0x11;
 
+pub fn all() -> Vec<KnownJudgement> {
+    [marked(), limits(), judgements(), refusals(), unknown_kinds(), unknown_tokens()].into_iter().flatten().collect()
+}
+
 /// The marked cases that concern judging.
 pub fn marked() -> Vec<KnownJudgement> {
     let mut known = vec![

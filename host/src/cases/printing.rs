@@ -40,6 +40,10 @@ const OPERATORS: [(u8, usize, &str); 18] = [
     (0x30, 3, "ite"),
 ];
 
+pub fn all() -> Vec<KnownText> {
+    [marked(), words(), lines(), refusals(), longest_tables(), longer_tables()].into_iter().flatten().collect()
+}
+
 /// The marked cases that concern slices.
 pub fn marked() -> Vec<KnownText> {
     vec![
@@ -146,7 +150,7 @@ pub fn longest_tables() -> Vec<KnownText> {
         read("length wrong", length_wrong, (3, 0)),
         read("version wrong", version_wrong, (2, 0)),
         read("no record, all spare", mended(&[&[1, 0, 0, 0, 0, 0], &[0; 65_529][..]].concat()), (5, 6)),
-        read("a trace's symbol", encoding::table(1, &[vec![3; 65_527]]), (7, 6)),
+        read("a trace's symbol at great length", encoding::table(1, &[vec![3; 65_527]]), (7, 6)),
         read("target n + 1", encoding::table(0, &[[&[4, 0, 2], &long_record(65_525)[1..]].concat()]), (6, 6)),
         read("a last record of an unknown kind", encoding::table(0, &[long_record(65_524), vec![9]]), (5, 65_532)),
         read("the last byte spare", spare, (5, 65_534)),

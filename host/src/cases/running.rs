@@ -26,6 +26,10 @@ pub fn thousand_asserts() -> Vec<u8> {
     encoding::table(1, &[ASSERT_SYMBOL_0; 1024])
 }
 
+pub fn all() -> Vec<KnownRun> {
+    [marked(), limits(), runs(), refusals(), unknown_kinds(), unknown_tokens()].into_iter().flatten().collect()
+}
+
 /// The marked cases that concern running.
 pub fn marked() -> Vec<KnownRun> {
     let mut known = vec![

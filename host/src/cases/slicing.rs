@@ -13,6 +13,10 @@ type KnownSlice = Known<SliceCase>;
 /// The room behind a slice, or where there is none.
 const SPARE_ROOM: usize = 100;
 
+pub fn all() -> Vec<KnownSlice> {
+    [marked(), limits(), slices(), rooms(), refusals()].into_iter().flatten().collect()
+}
+
 /// The marked cases that concern slicing.
 pub fn marked() -> Vec<KnownSlice> {
     vec![

@@ -13,6 +13,10 @@ const NEG: u8 = 0x11;
 /// The room behind a trace, or where there is none.
 const SPARE_ROOM: usize = 100;
 
+pub fn all() -> Vec<KnownTrace> {
+    [marked(), limits(), unwindings(), rooms(), refusals()].into_iter().flatten().collect()
+}
+
 /// The marked cases that concern writing a trace.
 pub fn marked() -> Vec<KnownTrace> {
     vec![

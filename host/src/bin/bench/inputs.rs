@@ -1,6 +1,6 @@
 //! What is timed: tables and traces of several sizes, accepted to the end or refused at it.
 
-use host::agreement::archive_trace;
+use host::archive::ARCHIVE;
 use host::case::{JudgeCase, RunCase};
 use host::cases::running;
 use host::encoding::{self, Form};
@@ -53,7 +53,7 @@ pub fn alternating_table(n: usize) -> Vec<u8> {
 
 /// Judging a table's trace in place of running it.
 pub fn unwound(RunCase { table, bound, valuation }: RunCase) -> JudgeCase {
-    JudgeCase { trace: archive_trace(&table, bound), valuation }
+    JudgeCase { trace: ARCHIVE.whole_trace(&table, bound), valuation }
 }
 
 /// Some 60,000 bytes, all of which the last statement depends on.

@@ -1,0 +1,77 @@
+//! Everything that is asked of generated cases: each call held to the model, and what the calls say of one another.
+
+use crate::agreement;
+use crate::answer::Answer;
+use crate::archive::Calls;
+use crate::case::{Case, JudgeCase, PrintCase, RunCase, SliceCase, TraceCase};
+use crate::check::{AnyCheck, Asked, Check};
+use crate::generate;
+
+pub const RUN: Check<RunCase> =
+    Check { name: RunCase::NAME, count: 100_000, speaks_of: None, generate: generate::run_case, ask: ask_model };
+
+pub const JUDGE: Check<JudgeCase> =
+    Check { name: JudgeCase::NAME, count: 100_000, speaks_of: None, generate: generate::judge_case, ask: ask_model };
+
+pub const TRACE: Check<TraceCase> =
+    Check { name: TraceCase::NAME, count: 80_000, speaks_of: None, generate: generate::trace_case, ask: ask_model };
+
+pub const SLICE: Check<SliceCase> =
+    Check { name: SliceCase::NAME, count: 40_000, speaks_of: None, generate: generate::slice_case, ask: ask_model };
+
+/// Each case starts the program.
+pub const PRINT: Check<PrintCase> =
+    Check { name: PrintCase::NAME, count: 3_000, speaks_of: None, generate: generate::print_case, ask: ask_model };
+
+pub const DEMAND_3: Check<RunCase> = Check {
+    name: "demand3",
+    count: 80_000,
+    speaks_of: Some(("a trace and a right valuation", 40_000)),
+    generate: generate::run_case,
+    ask: agreement::demand_3,
+};
+
+pub const SLICE_JUDGED: Check<JudgeCase> = Check {
+    name: "slice-judged",
+    count: 40_000,
+    speaks_of: Some(("an accepted trace and a right valuation", 50_000)),
+    generate: generate::sliced_judge_case,
+    ask: agreement::slice_judged,
+};
+
+pub const SLICE_UNREAD: Check<JudgeCase> = Check {
+    name: "slice-unread",
+    count: 40_000,
+    speaks_of: Some(("an accepted trace, a right valuation and an input not read", 20_000)),
+    generate: generate::sliced_judge_case,
+    ask: agreement::slice_unread,
+};
+
+pub const SLICE_TWICE: Check<JudgeCase> = Check {
+    name: "slice-twice",
+    count: 40_000,
+    speaks_of: Some(("an accepted trace", 50_000)),
+    generate: generate::sliced_judge_case,
+    ask: agreement::slice_twice,
+};
+
+/// Each case starts the program.
+pub const PRINT_READ: Check<PrintCase> = Check {
+    name: "print-read",
+    count: 3_000,
+    speaks_of: Some(("a slice", 30_000)),
+    generate: generate::print_case,
+    ask: agreement::print_read,
+};
+
+/// The checks of the archive alone.
+pub const OF_ARCHIVE: [&dyn AnyCheck; 8] =
+    [&RUN, &JUDGE, &TRACE, &SLICE, &DEMAND_3, &SLICE_JUDGED, &SLICE_UNREAD, &SLICE_TWICE];
+
+/// The checks of the slice printer.
+pub const OF_PROGRAM: [&dyn AnyCheck; 2] = [&PRINT, &PRINT_READ];
+
+fn ask_model<C: Case>(case: &C, calls: &dyn Calls) -> Asked {
+    let expected = case.model();
+    Asked { reply: C::reply(&expected), counts: true, wrong: case.ask(calls).differences(&expected) }
+}
