@@ -5,6 +5,7 @@ pub mod random;
 mod author;
 mod draft;
 mod expressions;
+mod far;
 mod faults;
 mod rules;
 mod traces;
@@ -22,10 +23,23 @@ const LONG_TABLE: usize = 4000;
 
 pub fn run_case(seed: u64) -> RunCase {
     let mut random = Random::new(seed);
+    if random.one_in(50) {
+        return far_run_case(&mut random);
+    }
     let rule = rules::rule(&mut random);
     let inputs = rule.inputs;
     let table = lay_out(&mut random, rule);
     RunCase { bound: bound(&mut random, table.len()), valuation: valuation(&mut random, inputs.into()), table }
+}
+
+fn far_run_case(random: &mut Random) -> RunCase {
+    let count = match random.below(4) {
+        0 => random.between(5, 256),
+        1 => random.between(257, 999),
+        _ => random.between(1_000, 1_024),
+    };
+    let (rule, bound) = far::rule_and_bound(random, count);
+    RunCase { bound, valuation: valuation(random, rule.inputs.into()), table: rule.encode() }
 }
 
 pub fn judge_case(seed: u64) -> JudgeCase {

@@ -55,6 +55,22 @@ impl Parts {
     }
 }
 
+/// A table whose jumps to themselves go on to what follows them instead.
+pub fn without_self_jumps(table: &[u8]) -> Vec<u8> {
+    let mut table = table.to_vec();
+    let mut offset = 6;
+    for i in 0..u16::MAX {
+        let Some([high, low, kind, target @ ..]) = table.get_mut(offset..offset + 5) else {
+            break;
+        };
+        if *kind == 4 && *target == i.to_be_bytes() {
+            target.copy_from_slice(&(i + 1).to_be_bytes());
+        }
+        offset += 2 + usize::from(u16::from_be_bytes([*high, *low]));
+    }
+    table
+}
+
 fn split_records(mut rest: &[u8], count: usize) -> (Vec<Vec<u8>>, Vec<u8>) {
     let mut records = Vec::new();
     while records.len() < count {

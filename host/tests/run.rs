@@ -4,24 +4,38 @@ use host::case::{Case, RunCase};
 use host::cases::running as cases;
 use host::checks;
 use host::hold::{hold, hold_features, hold_known};
-use host::model::RunAnswer;
+use host::model::{self, RunAnswer};
+use host::parts::{without_self_jumps, Parts};
+
+const ASSERT_0: [u8; 6] = [3, 1, 0, 0, 0, 0];
 
 /// The replies that generated cases have to reach.
 const REPLIES: [u32; 10] = [0, 1, 2, 3, 4, 5, 6, 7, 8, 11];
 
 /// What generated cases have to show, so many of 100,000.
-const DUE: [(&str, u64); 11] = [
+const DUE: [(&str, u64); 22] = [
     ("safe", 200),
     ("safe, back jumps: 1", 200),
     ("safe, back jumps: 2 to 9", 200),
-    ("safe, back jumps: 10 to 99", 200),
+    ("safe, back jumps: 10 to 100", 200),
+    ("safe, back jumps: 101 to 254", 200),
+    ("safe, back jumps: 255", 200),
     ("safe, a bound above 0 used up", 200),
+    ("safe past the last instruction, back jumps taken and to spare", 200),
     ("unsafe", 200),
     ("unsafe, back jumps: 1", 200),
     ("unsafe, back jumps: 2 to 9", 200),
+    ("unsafe, back jumps: 101 to 254", 200),
+    ("unsafe, back jumps: 255", 200),
     ("unsafe, a bound above 0 used up", 200),
-    ("accepted, 1,000 instructions or more", 20),
+    ("unsafe, instruction 1,000 or later", 200),
+    ("unsafe, place above 65,535", 200),
+    ("a jump to itself decides the verdict", 200),
+    ("a jump to itself decides the back jumps", 200),
+    ("input 63 decides the verdict", 200),
+    ("accepted, 1,000 instructions or more", 200),
     ("accepted, 65,000 bytes or more", 10),
+    ("accepted, one instruction or more", 45_000),
 ];
 
 #[test]
@@ -105,18 +119,27 @@ fn features(case: &RunCase, answer: RunAnswer) -> Vec<String> {
         return vec![];
     }
     let verdict = if answer.verdict == 0 { "safe" } else { "unsafe" };
-    let mut features = vec![verdict.into()];
-    features.push(format!("{verdict}, back jumps: {}", range(answer.back_jumps)));
-    if case.bound > 0 && case.bound == answer.back_jumps.into() {
-        features.push(format!("{verdict}, a bound above 0 used up"));
-    }
-    if u16::from_be_bytes([case.table[4], case.table[5]]) >= 1_000 {
-        features.push("accepted, 1,000 instructions or more".into());
-    }
-    if case.table.len() >= 65_000 {
-        features.push("accepted, 65,000 bytes or more".into());
-    }
-    features
+    let instructions = instructions(case);
+    let without_self_jumps = answer_without_self_jumps(case, answer);
+    let shown = [
+        (true, verdict.into()),
+        (true, format!("{verdict}, back jumps: {}", range(answer.back_jumps))),
+        (case.bound > 0 && case.bound == answer.back_jumps.into(), format!("{verdict}, a bound above 0 used up")),
+        (is_past_the_last(case, answer), "safe past the last instruction, back jumps taken and to spare".into()),
+        (failed_instruction(case, answer) >= 1_000, "unsafe, instruction 1,000 or later".into()),
+        (answer.place > 65_535, "unsafe, place above 65,535".into()),
+        (without_self_jumps.verdict != answer.verdict, "a jump to itself decides the verdict".into()),
+        (without_self_jumps.back_jumps != answer.back_jumps, "a jump to itself decides the back jumps".into()),
+        (is_decided_by_input_63(case, answer), "input 63 decides the verdict".into()),
+        (instructions >= 1_000, "accepted, 1,000 instructions or more".into()),
+        (case.table.len() >= 65_000, "accepted, 65,000 bytes or more".into()),
+        (instructions > 0, "accepted, one instruction or more".into()),
+    ];
+    shown.into_iter().filter(|(is_shown, _)| *is_shown).map(|(_, feature)| feature).collect()
+}
+
+fn instructions(case: &RunCase) -> u32 {
+    u16::from_be_bytes([case.table[4], case.table[5]]).into()
 }
 
 fn range(back_jumps: u32) -> &'static str {
@@ -124,7 +147,47 @@ fn range(back_jumps: u32) -> &'static str {
         0 => "none",
         1 => "1",
         2..=9 => "2 to 9",
-        10..=99 => "10 to 99",
-        _ => "100 to 255",
+        10..=100 => "10 to 100",
+        101..=254 => "101 to 254",
+        _ => "255",
     }
+}
+
+/// 0 in a safe run.
+fn failed_instruction(case: &RunCase, answer: RunAnswer) -> u32 {
+    answer.place.saturating_sub(answer.back_jumps * (instructions(case) + 1))
+}
+
+/// Whether the run ends there and not at an Assume or at its bound: a false Assert behind the last instruction is met.
+fn is_past_the_last(case: &RunCase, answer: RunAnswer) -> bool {
+    let to_spare = 0 < answer.back_jumps && u64::from(answer.back_jumps) < case.bound;
+    to_spare && answer.verdict == 0 && run_table(case, &with_false_assert(&case.table)).verdict == 1
+}
+
+fn with_false_assert(table: &[u8]) -> Vec<u8> {
+    let mut parts = Parts::of(table).expect("a whole header");
+    parts.records.push(ASSERT_0.to_vec());
+    parts.join()
+}
+
+fn answer_without_self_jumps(case: &RunCase, answer: RunAnswer) -> RunAnswer {
+    let table = without_self_jumps(&case.table);
+    if table == case.table {
+        return answer;
+    }
+    run_table(case, &table)
+}
+
+fn run_table(case: &RunCase, table: &[u8]) -> RunAnswer {
+    model::run(table, case.bound, &case.valuation)
+}
+
+fn is_decided_by_input_63(case: &RunCase, answer: RunAnswer) -> bool {
+    if case.valuation.len() != 4 * 64 {
+        return false;
+    }
+    let (others, word) = case.valuation.split_at(4 * 63);
+    let words = [[0; 4], [0, 0, 0, 1], [0xFF; 4], [word[0], word[1], word[2], !word[3]]];
+    let verdict = |word: [u8; 4]| model::run(&case.table, case.bound, &[others, &word].concat()).verdict;
+    words.into_iter().any(|word| verdict(word) != answer.verdict)
 }

@@ -40,8 +40,10 @@ pub trait Author {
         }
     }
 
+    /// A few blocks, seldom none.
     fn usual(&mut self) {
-        for _ in 0..self.random().below(5) {
+        let blocks = if self.random().one_in(25) { 0 } else { self.random().between(1, 4) };
+        for _ in 0..blocks {
             self.block();
         }
     }
@@ -119,9 +121,9 @@ pub trait Author {
 pub fn inputs(random: &mut Random) -> u8 {
     match random.below(20) {
         0 => 0,
-        1 => INPUT_LIMIT,
-        2 => INPUT_LIMIT - 1,
-        3..=5 => random.between(5, INPUT_LIMIT.into()) as u8,
+        1..=2 => INPUT_LIMIT,
+        3 => INPUT_LIMIT - 1,
+        4..=6 => random.between(5, INPUT_LIMIT.into()) as u8,
         _ => random.between(1, 4) as u8,
     }
 }

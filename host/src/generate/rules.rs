@@ -10,7 +10,8 @@ const NESTING_LIMIT: usize = 3;
 
 pub fn rule(random: &mut Random) -> Draft {
     let draft = Draft::new(Form::Table, author::inputs(random));
-    let mut author = TableAuthor { random, symbols: draft.readable(0), draft };
+    let favours_last = random.one_in(2);
+    let mut author = TableAuthor { random, symbols: draft.readable(0), favours_last, draft };
     author.write();
     author.mend_targets();
     author.draft
@@ -20,6 +21,8 @@ struct TableAuthor<'a> {
     random: &'a mut Random,
     draft: Draft,
     symbols: Vec<u16>,
+    /// Whether it is the last symbols that instructions share, not the first.
+    favours_last: bool,
 }
 
 impl Author for TableAuthor<'_> {
@@ -147,11 +150,12 @@ impl TableAuthor<'_> {
         }
     }
 
-    /// One of the first symbols more often than another, so that instructions meet.
+    /// One of three symbols more often than another, so that instructions meet.
     fn symbol(&mut self) -> Option<u8> {
         let most = if self.random.one_in(4) { 64 } else { 3 };
         let count = self.draft.inputs.min(most);
-        (count > 0).then(|| self.random.below(count.into()) as u8)
+        let first = if self.favours_last { self.draft.inputs - count } else { 0 };
+        (count > 0).then(|| first + self.random.below(count.into()) as u8)
     }
 
     fn jump(&mut self, target: usize, condition: Vec<u8>) -> usize {

@@ -3,7 +3,7 @@
 use super::draft::Draft;
 use super::expressions::NOT;
 use super::random::Random;
-use super::{any_bound, faults, lay_out, rules, traces, valuation};
+use super::{any_bound, far, faults, lay_out, rules, traces, valuation};
 use crate::case::{JudgeCase, PrintCase, SliceCase, TraceCase};
 use crate::encoding::Form;
 use crate::model;
@@ -52,18 +52,27 @@ fn any_trace(random: &mut Random) -> Vec<u8> {
     trace
 }
 
-/// The trace of the first rule and bound that have one.
 fn any_written_trace(random: &mut Random) -> Vec<u8> {
+    let (rule, bound) = rule_and_bound_with_trace(random);
+    written_trace(&rule.encode(), bound)
+}
+
+/// The first that have a trace, of which reply 10 says that nothing but room is missing.
+fn rule_and_bound_with_trace(random: &mut Random) -> (Draft, u64) {
     loop {
         let (rule, bound) = rule_and_bound(random);
-        let trace = written_trace(&rule.encode(), bound);
-        if !trace.is_empty() {
-            return trace;
+        if model::trace(&rule.encode(), bound, &mut []).reply == 10 {
+            return (rule, bound);
         }
     }
 }
 
 fn rule_and_bound(random: &mut Random) -> (Draft, u64) {
+    if random.one_in(150) {
+        let count = random.pick(&[14, 20, 100, 1_024]);
+        let count = random.between(5, count);
+        return far::rule_and_bound(random, count);
+    }
     let mut rule = rules::rule(random);
     let mut bound = trace_bound(random, rule.records.len());
     if random.one_in(100) {
