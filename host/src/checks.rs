@@ -25,9 +25,9 @@ pub const PRINT: Check<PrintCase> =
 
 pub const DEMAND_3: Check<RunCase> = Check {
     name: "demand3",
-    count: 80_000,
-    speaks_of: Some(("a trace and a right valuation", 40_000)),
-    generate: generate::run_case,
+    count: 50_000,
+    speaks_of: Some(("a trace and a right valuation", 90_000)),
+    generate: generate::unwound_run_case,
     ask: agreement::demand_3,
 };
 

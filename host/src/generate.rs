@@ -11,7 +11,7 @@ mod rules;
 mod traces;
 mod writing;
 
-pub use writing::{print_case, slice_case, sliced_judge_case, trace_case};
+pub use writing::{print_case, slice_case, sliced_judge_case, trace_case, unwound_run_case};
 
 use crate::case::{JudgeCase, RunCase};
 use crate::encoding;
@@ -84,12 +84,16 @@ fn huge_bound(random: &mut Random) -> u64 {
 }
 
 fn valuation(random: &mut Random, inputs: usize) -> Vec<u8> {
-    let words: Vec<u32> = (0..inputs).map(|_| random.word()).collect();
-    let mut valuation = encoding::valuation(&words);
+    let mut valuation = right_valuation(random, inputs);
     if random.percent(12) {
         valuation.resize(valuation_length(random, inputs), random.byte());
     }
     valuation
+}
+
+fn right_valuation(random: &mut Random, inputs: usize) -> Vec<u8> {
+    let words: Vec<u32> = (0..inputs).map(|_| random.word()).collect();
+    encoding::valuation(&words)
 }
 
 fn valuation_length(random: &mut Random, inputs: usize) -> usize {

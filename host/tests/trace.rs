@@ -32,12 +32,14 @@ const DUE: [(&str, u64); 16] = [
 ];
 
 /// What runs have to show beside written traces, so many of 100,000.
-const RUNS_DUE: [(&str, u64); 6] = [
+const RUNS_DUE: [(&str, u64); 8] = [
     ("safe", 10_000),
     ("safe, back jumps taken", 1_000),
     ("safe, a bound above 0 used up", 200),
     ("unsafe", 5_000),
     ("unsafe, back jumps taken", 1_000),
+    ("unsafe, more than 100 back jumps taken", 20),
+    ("unsafe, place 1,000 or later", 20),
     ("a trace, refused 11", 1_000),
 ];
 
@@ -192,19 +194,20 @@ fn range(bound: u64) -> &'static str {
 
 /// What a run beside a written trace shows, in the words of `RUNS_DUE`.
 fn run_features(case: &RunCase, answer: RunAnswer) -> Vec<String> {
-    if model_trace(&case.table, case.bound).is_empty() {
+    let is_room_missing = model::trace(&case.table, case.bound, &mut []).reply == 10;
+    if !is_room_missing {
         return vec!["no trace".into()];
     }
     if answer.reply != 0 {
         return vec![format!("a trace, refused {}", answer.reply)];
     }
     let verdict = if answer.verdict == 0 { "safe" } else { "unsafe" };
-    let mut features = vec![verdict.into()];
-    if answer.back_jumps > 0 {
-        features.push(format!("{verdict}, back jumps taken"));
-        if case.bound == answer.back_jumps.into() {
-            features.push(format!("{verdict}, a bound above 0 used up"));
-        }
-    }
-    features
+    let shown = [
+        (true, ""),
+        (answer.back_jumps > 0, ", back jumps taken"),
+        (answer.back_jumps > 100, ", more than 100 back jumps taken"),
+        (answer.back_jumps > 0 && case.bound == answer.back_jumps.into(), ", a bound above 0 used up"),
+        (answer.place >= 1_000, ", place 1,000 or later"),
+    ];
+    shown.into_iter().filter(|(is_shown, _)| *is_shown).map(|(_, feature)| format!("{verdict}{feature}")).collect()
 }

@@ -3,8 +3,8 @@
 use super::draft::Draft;
 use super::expressions::NOT;
 use super::random::Random;
-use super::{any_bound, far, faults, lay_out, rules, traces, valuation};
-use crate::case::{JudgeCase, PrintCase, SliceCase, TraceCase};
+use super::{any_bound, far, faults, lay_out, right_valuation, rules, run_case, traces, valuation};
+use crate::case::{JudgeCase, PrintCase, RunCase, SliceCase, TraceCase};
 use crate::encoding::Form;
 use crate::model;
 use crate::written::{whole, LENGTH_LIMIT};
@@ -15,6 +15,17 @@ pub fn trace_case(seed: u64) -> TraceCase {
     let table = lay_out(&mut random, rule);
     let length = written_trace(&table, bound).len();
     TraceCase { table, bound, room: room(&mut random, length) }
+}
+
+/// Runs of tables that have a trace under their bound, but for a few.
+pub fn unwound_run_case(seed: u64) -> RunCase {
+    let mut random = Random::new(seed);
+    if random.one_in(25) {
+        return run_case(!seed);
+    }
+    let (rule, bound) = rule_and_bound_with_trace(&mut random);
+    let valuation = if random.one_in(10) { valuation } else { right_valuation };
+    RunCase { bound, valuation: valuation(&mut random, rule.inputs.into()), table: rule.encode() }
 }
 
 /// As those of writing a trace, under a bound of one byte.
