@@ -1,0 +1,328 @@
+//! Seeded faults: each liar gives what the archive gives but for one call, and a check of the suite has to notice it. The
+//! liars stand in this file alone, where no other test can meet them.
+
+use std::io::{self, Write};
+use std::process::Command;
+
+use host::archive::{Calls, ARCHIVE};
+use host::check::{first_failing, seeds, AnyCheck};
+use host::checks;
+use host::parts::{without_self_jumps, Parts};
+use host::program::Printed;
+
+const ASSUME: u8 = 2;
+/// Buffers as long as this are lent to few calls.
+const LONG: usize = 60_000;
+
+/// Fails where the check passes the liar on all cases of its test.
+fn is_noticed_by(check: &dyn AnyCheck, fault: &str, liar: &dyn Calls) -> u64 {
+    let mut cases = 0;
+    let failing = first_failing(check, seeds(1, check.count()), liar, |_| cases += 1);
+    let seed = failing.unwrap_or_else(|| panic!("{} does not notice {fault} in {cases} cases", check.name()));
+    let line = format!("hit faults: {} notices {fault} in case {cases}, seed {seed}", check.name());
+    writeln!(io::stdout(), "{line}").expect("standard output can be written");
+    seed
+}
+
+#[test]
+fn a_place_cut_to_16_bits_is_noticed() {
+    struct Liar;
+    impl Calls for Liar {
+        fn run_place(&self, table: &[u8], bound: u64, valuation: &[u8]) -> u32 {
+            ARCHIVE.run_place(table, bound, valuation) & 0xFFFF
+        }
+    }
+    is_noticed_by(&checks::RUN, "a place cut to 16 bits", &Liar);
+}
+
+#[test]
+fn a_place_without_the_exits_is_noticed() {
+    struct Liar;
+    impl Calls for Liar {
+        fn run_place(&self, table: &[u8], bound: u64, valuation: &[u8]) -> u32 {
+            let place = ARCHIVE.run_place(table, bound, valuation);
+            place.saturating_sub(ARCHIVE.run_back_jumps(table, bound, valuation))
+        }
+    }
+    is_noticed_by(&checks::RUN, "places r×n+i", &Liar);
+    is_noticed_by(&checks::DEMAND_3, "places r×n+i", &Liar);
+}
+
+#[test]
+fn a_count_of_255_back_jumps_off_by_one_is_noticed() {
+    struct Liar;
+    impl Calls for Liar {
+        fn run_back_jumps(&self, table: &[u8], bound: u64, valuation: &[u8]) -> u32 {
+            ARCHIVE.run_back_jumps(table, bound, valuation).min(254)
+        }
+    }
+    is_noticed_by(&checks::RUN, "254 back jumps for 255", &Liar);
+}
+
+#[test]
+fn a_last_back_jump_of_255_that_is_not_taken_is_noticed() {
+    struct Liar;
+    impl Calls for Liar {
+        fn run_verdict(&self, table: &[u8], bound: u64, valuation: &[u8]) -> u32 {
+            let bound = if bound == 255 { 254 } else { bound };
+            ARCHIVE.run_verdict(table, bound, valuation)
+        }
+    }
+    is_noticed_by(&checks::RUN, "the bound 254 for 255", &Liar);
+}
+
+#[test]
+fn a_bound_that_is_counted_as_used_up_in_every_loop_is_noticed() {
+    struct Liar;
+    impl Calls for Liar {
+        fn run_back_jumps(&self, table: &[u8], bound: u64, valuation: &[u8]) -> u32 {
+            match ARCHIVE.run_back_jumps(table, bound, valuation) {
+                101.. if ARCHIVE.run_verdict(table, bound, valuation) == 0 => bound as u32,
+                taken => taken,
+            }
+        }
+    }
+    is_noticed_by(&checks::RUN, "no back jump to spare after 100", &Liar);
+}
+
+#[test]
+fn an_assert_that_is_passed_over_from_instruction_1000_on_is_noticed() {
+    struct Liar;
+    impl Calls for Liar {
+        fn run_verdict(&self, table: &[u8], bound: u64, valuation: &[u8]) -> u32 {
+            let verdict = ARCHIVE.run_verdict(table, bound, valuation);
+            if verdict == 1 && ARCHIVE.run_place(table, bound, valuation) % (count(table) + 1) >= 1_000 {
+                return 0;
+            }
+            verdict
+        }
+    }
+    is_noticed_by(&checks::RUN, "no Assert from instruction 1,000 on", &Liar);
+}
+
+#[test]
+fn a_jump_to_itself_that_goes_on_is_noticed() {
+    struct Liar;
+    impl Calls for Liar {
+        fn run_verdict(&self, table: &[u8], bound: u64, valuation: &[u8]) -> u32 {
+            ARCHIVE.run_verdict(&without_self_jumps(table), bound, valuation)
+        }
+    }
+    is_noticed_by(&checks::RUN, "jumps to themselves that go on", &Liar);
+    is_noticed_by(&checks::DEMAND_3, "jumps to themselves that go on", &Liar);
+}
+
+#[test]
+fn input_63_taken_for_0_is_noticed() {
+    struct Liar;
+    impl Calls for Liar {
+        fn run_verdict(&self, table: &[u8], bound: u64, valuation: &[u8]) -> u32 {
+            let mut valuation = valuation.to_vec();
+            valuation.iter_mut().skip(4 * 63).for_each(|byte| *byte = 0);
+            ARCHIVE.run_verdict(table, bound, &valuation)
+        }
+    }
+    is_noticed_by(&checks::RUN, "input 63 taken for 0", &Liar);
+}
+
+#[test]
+fn a_valuation_refused_before_a_bound_above_255_is_noticed() {
+    struct Liar;
+    impl Calls for Liar {
+        fn run_reply(&self, table: &[u8], bound: u64, valuation: &[u8]) -> u32 {
+            match ARCHIVE.run_reply(table, bound, valuation) {
+                8 => ARCHIVE.run_reply(table, 0, valuation).max(8),
+                reply => reply,
+            }
+        }
+    }
+    is_noticed_by(&checks::RUN, "reply 11 given for 8", &Liar);
+}
+
+#[test]
+fn an_expression_refused_for_an_assigned_symbol_is_noticed() {
+    struct Liar;
+    impl Calls for Liar {
+        fn judge_reply(&self, trace: &[u8], valuation: &[u8]) -> u32 {
+            match ARCHIVE.judge_reply(trace, valuation) {
+                6 => 7,
+                reply => reply,
+            }
+        }
+    }
+    is_noticed_by(&checks::JUDGE, "reply 7 given for 6", &Liar);
+}
+
+#[test]
+fn a_judged_place_65535_off_by_one_is_noticed() {
+    struct Liar;
+    impl Calls for Liar {
+        fn judge_place(&self, trace: &[u8], valuation: &[u8]) -> u32 {
+            ARCHIVE.judge_place(trace, valuation).min(65_534)
+        }
+    }
+    is_noticed_by(&checks::JUDGE, "place 65534 for 65535", &Liar);
+}
+
+#[test]
+fn a_late_byte_of_a_trace_is_noticed() {
+    struct Liar;
+    impl Calls for Liar {
+        fn trace_length(&self, table: &[u8], bound: u64, out: &mut [u8]) -> u32 {
+            let length = ARCHIVE.trace_length(table, bound, out);
+            if length as usize > LONG {
+                out[length as usize - 1] ^= 1;
+            }
+            length
+        }
+    }
+    is_noticed_by(&checks::TRACE, "a long trace's last byte changed", &Liar);
+}
+
+#[test]
+fn a_byte_behind_a_trace_is_noticed_and_reported_by_its_call_its_offset_and_both_values() {
+    struct Liar;
+    impl Calls for Liar {
+        fn trace_offset(&self, table: &[u8], bound: u64, out: &mut [u8]) -> u32 {
+            let offset = ARCHIVE.trace_offset(table, bound, out);
+            if out.len() > LONG {
+                out[LONG] ^= 1;
+            }
+            offset
+        }
+    }
+    let seed = is_noticed_by(&checks::TRACE, "a byte of a buffer changed", &Liar);
+    let report = checks::TRACE.report(seed, &Liar);
+    let line = report.lines().nth(2).expect("a report's third line");
+    assert!(line.starts_with("kadvitul_trace_offset, its buffer: byte 60000 is 0x"), "{line}");
+    assert_eq!(line.matches("0x").count(), 2, "{line}");
+}
+
+#[test]
+fn a_refusal_that_writes_a_byte_is_noticed() {
+    struct Liar;
+    impl Calls for Liar {
+        fn trace_reply(&self, table: &[u8], bound: u64, out: &mut [u8]) -> u32 {
+            let reply = ARCHIVE.trace_reply(table, bound, out);
+            if reply == 9 && !out.is_empty() {
+                out[0] = 129;
+            }
+            reply
+        }
+    }
+    is_noticed_by(&checks::TRACE, "a byte written where reply 9 is given", &Liar);
+}
+
+#[test]
+fn a_mask_with_bit_63_flipped_is_noticed() {
+    struct Liar;
+    impl Calls for Liar {
+        fn slice_mask(&self, trace: &[u8], out: &mut [u8]) -> u64 {
+            let mask = ARCHIVE.slice_mask(trace, out);
+            if mask >> 62 == 0 {
+                mask
+            } else {
+                mask ^ 1 << 63
+            }
+        }
+    }
+    is_noticed_by(&checks::SLICE, "bit 63 flipped where bit 62 or 63 is set", &Liar);
+}
+
+#[test]
+fn a_mask_without_an_input_that_decides_is_noticed() {
+    struct Liar;
+    impl Calls for Liar {
+        fn slice_mask(&self, trace: &[u8], out: &mut [u8]) -> u64 {
+            let mask = ARCHIVE.slice_mask(trace, out);
+            mask & !(1 << 63 >> mask.leading_zeros().min(63))
+        }
+    }
+    is_noticed_by(&checks::SLICE, "the mask's highest bit cleared", &Liar);
+    is_noticed_by(&checks::SLICE_UNREAD, "the mask's highest bit cleared", &Liar);
+    is_noticed_by(&checks::DEMAND_3, "the mask's highest bit cleared", &Liar);
+}
+
+#[test]
+fn a_count_of_read_inputs_off_by_one_is_noticed() {
+    struct Liar;
+    impl Calls for Liar {
+        fn slice_inputs(&self, trace: &[u8], out: &mut [u8]) -> u32 {
+            let mask = ARCHIVE.mask(trace);
+            ARCHIVE.slice_inputs(trace, out) - (mask >> 63) as u32
+        }
+    }
+    is_noticed_by(&checks::SLICE, "input 63 not counted", &Liar);
+}
+
+#[test]
+fn a_late_byte_of_a_slice_is_noticed() {
+    struct Liar;
+    impl Calls for Liar {
+        fn slice_mask(&self, trace: &[u8], out: &mut [u8]) -> u64 {
+            let mask = ARCHIVE.slice_mask(trace, out);
+            if out.len() > LONG {
+                *out.last_mut().expect("a long buffer") ^= 1;
+            }
+            mask
+        }
+    }
+    is_noticed_by(&checks::SLICE, "the last byte of a long buffer changed", &Liar);
+}
+
+#[test]
+fn a_slice_without_its_assumes_is_noticed() {
+    struct Liar;
+    impl Calls for Liar {
+        fn slice_length(&self, trace: &[u8], out: &mut [u8]) -> u32 {
+            let length = ARCHIVE.slice_length(trace, out) as usize;
+            let Some(mut parts) = Parts::of(&out[..length]) else {
+                return 0;
+            };
+            parts.records.retain(|record| record[0] != ASSUME);
+            let slice = parts.join();
+            out[..slice.len()].copy_from_slice(&slice);
+            slice.len() as u32
+        }
+    }
+    is_noticed_by(&checks::SLICE, "a slice without its Assumes", &Liar);
+    is_noticed_by(&checks::SLICE_JUDGED, "a slice without its Assumes", &Liar);
+    is_noticed_by(&checks::DEMAND_3, "a slice without its Assumes", &Liar);
+}
+
+#[test]
+fn a_late_byte_of_a_text_is_noticed() {
+    struct Liar;
+    impl Calls for Liar {
+        fn print(&self, input: &[u8]) -> Printed {
+            let mut printed = ARCHIVE.print(input);
+            if printed.text.len() > 10_000 {
+                *printed.text.last_mut().expect("a long text") ^= 1;
+            }
+            printed
+        }
+    }
+    is_noticed_by(&checks::PRINT, "a long text's last byte changed", &Liar);
+    is_noticed_by(&checks::PRINT_READ, "a long text's last byte changed", &Liar);
+}
+
+#[test]
+fn a_failing_case_is_reported_with_the_command_that_repeats_it() {
+    struct Liar;
+    impl Calls for Liar {
+        fn run_back_jumps(&self, table: &[u8], bound: u64, valuation: &[u8]) -> u32 {
+            ARCHIVE.run_back_jumps(table, bound, valuation).min(1)
+        }
+    }
+    let seed = is_noticed_by(&checks::RUN, "one back jump for more", &Liar);
+    let report = checks::RUN.report(seed, &Liar);
+    assert!(report.contains(&format!("CASE=run SEED={seed} cargo run --offline --release")), "{report}");
+    assert!(report.contains("\nkadvitul_run_back_jumps: 1, not 2\n"), "{report}");
+    let mut soak = Command::new(env!("CARGO_BIN_EXE_soak"));
+    let output = soak.env("CASE", "run").env("SEED", seed.to_string()).output().expect("the soak starts");
+    assert_eq!(String::from_utf8_lossy(&output.stdout), format!("run: the case of seed {seed} holds\n"));
+}
+
+fn count(file: &[u8]) -> u32 {
+    u16::from_be_bytes([file[4], file[5]]).into()
+}
