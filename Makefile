@@ -11,7 +11,7 @@
 RULE = small
 K = 0
 N = 100000
-SEED =
+SEED ?=
 
 # the crates that the archive is made of, and their files
 parts = $(shell awk -F: '$$1 == "kadvitul" { print $$1 $$2 }' crates.txt)
@@ -30,14 +30,15 @@ test:
 	@tools/gate
 
 bench: lib
-	cd host && cargo run --offline --profile measure --quiet --bin bench
+	@cd host && cargo run --offline --profile measure --quiet --bin bench
 
 soak: lib
-	cd host && CASES=$(N) SEED=$(SEED) cargo run --offline --release --quiet --bin soak
+	@cd host && CASES=$(N) SEED=$(SEED) cargo run --offline --release --quiet --bin soak
 
 lib: target/staticlib/libkadvitul.a
 
 target/staticlib/libkadvitul.a: crates.txt $(sources)
+	@command -v rt >/dev/null || { echo "make: the command rt is missing. Install the Rattle kit and put it on the PATH" >&2; exit 1; }
 	rt staticlib kadvitul
 
 fmt:

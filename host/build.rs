@@ -2,7 +2,6 @@
 
 use std::env;
 use std::path::PathBuf;
-use std::process;
 
 fn main() {
     let folder = archive_folder();
@@ -10,8 +9,8 @@ fn main() {
     println!("cargo:rerun-if-env-changed=KADVITUL_LIB");
     println!("cargo:rerun-if-changed={}", archive.display());
     if !archive.is_file() {
-        eprintln!("{} is missing: run `make lib` first", archive.display());
-        process::exit(1);
+        println!("cargo::error={} is missing; `make lib` in the project's folder makes it", archive.display());
+        return;
     }
     println!("cargo:rustc-link-search=native={}", folder.display());
     println!("cargo:rustc-link-lib=static:-bundle=kadvitul");
@@ -22,5 +21,5 @@ fn archive_folder() -> PathBuf {
         return folder.into();
     }
     let package = env::var_os("CARGO_MANIFEST_DIR").expect("cargo sets CARGO_MANIFEST_DIR");
-    PathBuf::from(package).join("../target/staticlib")
+    PathBuf::from(package).with_file_name("target").join("staticlib")
 }
