@@ -26,7 +26,7 @@ use Rattle.trace.specs.Shown.{loose, held, exprPart, exprOf}
 use Rattle.trace.proofs.Held.{Held}
 use Rattle.trace.proofs.Moves.{expr-whole}
 use Rattle.slice.specs.declared.back.Kept.{Kept}
-use Rattle.slice.specs.Slice.{isAssert}
+use Rattle.trace.specs.Asserts.{isAssert}
 use Rattle.slice.specs.Shown.{inSet, readsIn, keepIn, assertsIn, Stepped}
 
 -- a statement that is not kept is no Assert

@@ -15,7 +15,8 @@ use Rattle.file.specs.ReadingLaws.{short}
 use Rattle.trace.specs.Trace.{Stmt, Assign, Test, stmts, readTrace, stmtBytes, readsTrace}
 use Rattle.trace.specs.EncodeLaws.{encode-read}
 use Rattle.slice.specs.declared.back.Kept.{Kept}
-use Rattle.slice.specs.Slice.{isAssert, hasAssert, keep, slice}
+use Rattle.trace.specs.Asserts.{isAssert, hasAssert}
+use Rattle.slice.specs.Slice.{keep, slice}
 use Rattle.slice.specs.SliceLaws.{slice-shorter, slice-smaller, encode-length}
 use Rattle.slice.specs.Shown as Shown
 use Rattle.slice.specs.Shown.{inSet, readsIn, keepStmt, keepIn, assertsIn, Stepped, WalkedBack}

@@ -22,7 +22,8 @@ use Rattle.file.specs.ReadingLaws.{short}
 use Rattle.trace.specs.Trace.{Stmt, Assign, Test, stmts, readTrace, stmtBytes, encodeTrace, readsTrace}
 use Rattle.trace.specs.WellFormed.{trace-ok}
 use Rattle.trace.specs.EncodeLaws.{encode-read}
-use Rattle.slice.specs.Slice.{isAssert, hasAssert, keep, slice}
+use Rattle.trace.specs.Asserts.{isAssert, hasAssert}
+use Rattle.slice.specs.Slice.{keep, slice}
 use Rattle.slice.specs.Answer.{sliceOf, refusal, answered, sliceAnswer}
 use Rattle.slice.specs.SliceLaws.{encode-length, slice-asserts}
 

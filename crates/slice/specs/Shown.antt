@@ -10,7 +10,8 @@ use Rattle.expr.specs.Eval.{readsToken, reads}
 use Rattle.file.specs.File.{Body, Good, Bad, recordBytes, recordsBytes}
 use Rattle.trace.specs.Trace.{Stmt, Assign, Test, readsTrace, stmtBytes}
 use Rattle.trace.specs.Shown.{exprOf}
-use Rattle.slice.specs.Slice.{isAssert, slice}
+use Rattle.trace.specs.Asserts.{isAssert}
+use Rattle.slice.specs.Slice.{slice}
 use Rattle.slice.specs.declared.back.Kept.{Kept}
 
 -- ---- a set of symbols

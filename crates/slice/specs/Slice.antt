@@ -1,18 +1,8 @@
 -- Document 01, "The slice": what is kept of a trace, walking from its last statement back.
-use mathlib.Core.Bool.{Bool, true, false, cond, _||_}
+use mathlib.Core.Bool.{Bool, cond, _||_}
 use mathlib.Core.List.{List, [], _∷_}
-use Rattle.file.specs.Outcome.{Kind, Assume, Assert, Bound}
 use Rattle.trace.specs.Trace.{Stmt, Assign, Test, readsTrace}
-
-abbrev pub isAssert : Kind → Bool
-isAssert Assume = false
-isAssert Assert = true
-isAssert Bound = false
-
-abbrev pub hasAssert : List Stmt → Bool
-hasAssert [] = false
-hasAssert (Assign p x e ∷ ts) = hasAssert ts
-hasAssert (Test k p e ∷ ts) = isAssert k || hasAssert ts
+use Rattle.trace.specs.Asserts.{isAssert, hasAssert}
 
 -- before `rest`, of which `kept` is kept: every Assert; an Assume if an Assert follows; an Assign if its symbol is needed, that is
 -- if a kept statement reads it

@@ -34,35 +34,10 @@ use Rattle.trace.specs.TraceLaws.{stmt-low}
 use Rattle.trace.specs.WellFormed.{StmtsOk, trace-ok}
 use Rattle.trace.specs.EncodeLaws.{encode-read, read-encode}
 use Rattle.trace.specs.Judge.{judge}
-use Rattle.slice.specs.Slice.{isAssert, hasAssert, keep, keptBefore, slice}
+use Rattle.trace.specs.Asserts.{isAssert, hasAssert}
+use Rattle.trace.specs.AssertsLaws.{Alike, alike-cond, no-assert-here, no-assert-safe}
+use Rattle.slice.specs.Slice.{keep, keptBefore, slice}
 use Rattle.slice.specs.Answer.{sliceOf, refusal, answered, sliceAnswer}
-
--- ---- a trace with no Assert is safe
-
--- one verdict and one place
-abbrev Alike : (o u : Outcome) → Type 0
-Alike o u = (verdict o ≡ verdict u) × (placeOf o ≡ placeOf u)
-
-alike-cond : (b : Bool) (o u z : Outcome) → Alike o u → Alike (cond b o z) (cond b u z)
-alike-cond true o u z h = h
-alike-cond false o u z h = (refl, refl)
-
--- neither this test nor one behind it is an Assert
-no-assert-here : (k : Kind) (b : Bool) (p : ℕ) → (isAssert k || b) ≡ false → Alike (Failed k p) Ended × (b ≡ false)
-no-assert-here Assume b p h = ((refl, refl), h)
-no-assert-here Assert b p h = absurd (let z : _≡_ {A = ℕ} 0 1 = cc in omega arith)
-no-assert-here Bound b p h = ((refl, refl), h)
-
-no-assert-safe : (ts : List Stmt) (σ : Env) → hasAssert ts ≡ false → Alike (judge ts σ) Ended
-unfolding judge
-no-assert-safe [] σ h = (refl, refl)
-no-assert-safe (Assign p x e ∷ ts) σ h = no-assert-safe ts (update σ x (value σ e)) h
-no-assert-safe (Test k p e ∷ ts) σ h = go (truthy (value σ e)) (no-assert-here k (hasAssert ts) p h) (no-assert-safe ts σ)
-  where
-    go : (b : Bool) → Alike (Failed k p) Ended × (hasAssert ts ≡ false) → (hasAssert ts ≡ false → Alike (judge ts σ) Ended)
-        → Alike (cond b (judge ts σ) (Failed k p)) Ended
-    go true n ih = ih (n .1)
-    go false n ih = n .0
 
 -- ---- two environments that agree on what a trace reads
 

@@ -5,6 +5,8 @@ pub mod WellFormed
 pub mod EncodeLaws
 pub mod Judge
 pub mod JudgeLaws
+pub mod Asserts
+pub mod AssertsLaws
 pub mod Answer
 pub mod Cases
 -- What the code's values mean in these terms.
