@@ -23,7 +23,8 @@ use Rattle.unwind.specs.Unwind.{unwind}
 use Rattle.unwind.specs.Answer.{traceAnswer}
 use Rattle.slice.specs.Slice.{slice}
 use Rattle.slice.specs.Answer.{sliceAnswer}
-use Rattle.show.specs.Text.{decimal, refusalText, printed}
+use Rattle.show.specs.Text.{refusalText, printed}
+use Rattle.write.specs.Decimal.{decimal}
 use Rattle.show.specs.TextLaws.{prints-refusal, prints-too-long}
 use Rattle.show.specs.Answer.{showAnswer}
 use Rattle.show.specs.AnswerLaws.{show-done}

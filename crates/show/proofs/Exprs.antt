@@ -16,8 +16,9 @@ use Rattle.expr.proofs.Steps.{Constant, Reads, Operator, constant-stands, symbo
 use Rattle.expr.proofs.Rests.{Rest, tokens, rest-start, turn, rest-end}
 use Rattle.write.specs.Splice.{Wrote}
 use Rattle.write.specs.SpliceLaws.{wrote-as, Ahead, ahead-start, ahead-step, ahead-end}
-use Rattle.show.specs.Ascii.{ascii}
-use Rattle.show.specs.Text.{decimal, exprText}
+use Rattle.write.specs.Ascii.{ascii}
+use Rattle.show.specs.Text.{exprText}
+use Rattle.write.specs.Decimal.{decimal}
 use Rattle.show.specs.Shown.{textOf, nameOf, readText}
 
 -- ---- the token at a place

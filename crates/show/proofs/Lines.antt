@@ -26,8 +26,9 @@ use Rattle.trace.proofs.Held.{Held, held-at}
 use Rattle.trace.proofs.Moves.{expr-whole}
 use Rattle.write.specs.Splice.{Wrote}
 use Rattle.write.specs.SpliceLaws.{Ahead, ahead-start, ahead-step, ahead-end}
-use Rattle.show.specs.Ascii.{ascii}
-use Rattle.show.specs.Text.{firstLine, decimal, kindName, exprText, stmtLines, traceText}
+use Rattle.write.specs.Ascii.{ascii}
+use Rattle.show.specs.Text.{firstLine, kindName, exprText, stmtLines, traceText}
+use Rattle.write.specs.Decimal.{decimal}
 use Rattle.show.specs.Shown.{lineIn}
 
 -- ---- one record

@@ -13,8 +13,9 @@ use Rattle.unwind.specs.Unwind.{unwind}
 use Rattle.unwind.specs.Answer.{traceAnswer}
 use Rattle.slice.specs.Slice.{slice}
 use Rattle.slice.specs.Answer.{sliceAnswer}
-use Rattle.show.specs.Ascii.{ascii}
-use Rattle.show.specs.Text.{decimal, exprText, printed}
+use Rattle.write.specs.Ascii.{ascii}
+use Rattle.show.specs.Text.{exprText, printed}
+use Rattle.write.specs.Decimal.{decimal}
 use Rattle.show.specs.Answer.{refusal, showAnswer}
 
 -- the whole output for K = 0 and the small rule
@@ -58,19 +59,6 @@ refusals : (printed [] ≡ ascii "refused 1 at 0\n") × (printed (0 ∷ []) ≡ 
     × (printed (0 ∷ 1 ∷ 0 ∷ 7 ∷ 0 ∷ 0 ∷ 0 ∷ 9 ∷ []) ≡ ascii "refused 5 at 6\n")
 unfolding printed decimal traceAnswer readTable readFile headerReply records
 refusals = (refl, refl, refl, refl, refl)
-
--- the largest constant
-largest : decimal 4294967295 ≡ ascii "4294967295"
-unfolding decimal
-largest = refl
-
--- a byte for a letter
-letters : ascii "s 09az\n" ≡ 115 ∷ 32 ∷ 48 ∷ 57 ∷ 97 ∷ 122 ∷ 10 ∷ []
-letters = refl
-
-numbers : (decimal 0 ≡ 48 ∷ []) × (decimal 9 ≡ 57 ∷ []) × (decimal 10 ≡ 49 ∷ 48 ∷ []) × (decimal 4096 ≡ 52 ∷ 48 ∷ 57 ∷ 54 ∷ [])
-unfolding decimal
-numbers = (refl, refl, refl, refl)
 
 -- document 01's names of the tokens, in its order
 names : exprText (Const 10 ∷ Symbol 4159 ∷ Un Not ∷ Un Neg ∷ Un Zero ∷ Bin Add ∷ Bin Sub ∷ Bin Mul ∷ Bin Udiv ∷ Bin Urem ∷ Bin And ∷ Bin Or

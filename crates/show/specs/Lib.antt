@@ -1,5 +1,4 @@
 -- What a reader must believe, beside document 01.
-pub mod Ascii
 pub mod Text
 pub mod TextLaws
 pub mod SizeLaws

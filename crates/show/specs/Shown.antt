@@ -1,27 +1,17 @@
 -- What the code's values mean: its answers as functions of the definitions.
-use Prim.Native.Nat.{ℕ, zero, suc, _/_}
+use Prim.Native.Nat.{ℕ}
 use mathlib.Core.Path.{_≡_}
-use mathlib.Core.Bool.{cond}
 use mathlib.Core.Option.{Option, none, some}
 use mathlib.Core.List.{List, [], _++_}
 use lib.ListN.{length}
-use lib.Dec.{ltb}
 use Rattle.expr.specs.Token.{Token, operator}
 use Rattle.file.specs.File.{Body, Good, Bad}
 use Rattle.trace.specs.Trace.{Stmt}
 use Rattle.write.specs.Splice.{over}
 use Rattle.show.specs.declared.Answer.{Answer}
-use Rattle.show.specs.Ascii.{ascii}
+use Rattle.write.specs.Ascii.{ascii}
 use Rattle.show.specs.Text.{tokenText, stmtLine}
 use Rattle.show.specs.Answer.{fitting, numbers}
-
--- the digits of a number, at most k
-abbrev pub digitCountUpTo : (k n : ℕ) → ℕ
-digitCountUpTo zero n = 0
-digitCountUpTo (suc k) n = cond (ltb n 10) 1 (suc (digitCountUpTo k (n / 10)))
-
-abbrev pub digitCount : ℕ → ℕ
-digitCount n = digitCountUpTo 10 n
 
 -- the text of a token that is read, after a space
 abbrev pub readText : Option Token → List ℕ

@@ -1,14 +1,11 @@
 -- How long a text can be: no token, line or header has more letters than six for each of its bytes in a trace, so 6 × 65,535 hold every
 -- text that is printed.
-use Prim.Native.Nat.{ℕ, zero, suc, _+_, _*_, _/_, _%_, _≤_, _<_}
+use Prim.Native.Nat.{ℕ, _+_, _*_, _≤_, _<_}
 use native.Mathlib.Omega.{arith}
 use native.Mathlib.Decide.{decLt}
-use mathlib.Core.Path.{_≡_, refl, sym, ap, _∙_, subst⁻¹}
-use mathlib.Core.Bool.{Bool, true, false, cond}
+use mathlib.Core.Path.{_≡_, refl, ap}
 use mathlib.Core.List.{List, [], _∷_, _++_}
 use lib.ListN.{length, length-append}
-use lib.Dec.{ltb}
-use borrow.Author.Tests.{lt-ltb}
 use Rattle.expr.specs.declared.File.the-variants.{Trace}
 use Rattle.expr.specs.Lists.{All}
 use Rattle.expr.specs.Number.{Byte, bytesOf}
@@ -23,37 +20,13 @@ use Rattle.trace.specs.Trace.{Stmt, Assign, Test, stmtBytes, encodeTrace}
 use Rattle.unwind.specs.Unwind.{unwind}
 use Rattle.slice.specs.Slice.{slice}
 use Rattle.slice.specs.SliceLaws.{encode-length, slice-fits}
-use Rattle.show.specs.Ascii.{ascii}
-use Rattle.show.specs.Text.{decimalUpTo, decimal, unaryName, binaryName, tokenText, exprText, kindName, stmtLine, stmtLines}
+use Rattle.write.specs.Ascii.{ascii}
+use Rattle.write.specs.Decimal.{decimal}
+use Rattle.write.specs.DecimalLaws.{ten-digits, two-digits}
+use Rattle.show.specs.Text.{unaryName, binaryName, tokenText, exprText, kindName, stmtLine, stmtLines}
+use Rattle.write.specs.Decimal.{decimalUpTo, decimal}
 use Rattle.show.specs.Text.{firstLine, sliceText, refusalText, printed}
 use Rattle.show.specs.TextLaws.{prints-refusal, prints-nine, prints-slice}
-
--- ---- numbers
-
-decimal-up-to : (k n : ℕ) → length (decimalUpTo k n) ≤ k
-decimal-up-to zero n = omega arith
-decimal-up-to (suc k) n = go (ltb n 10) (decimal-up-to k (n / 10))
-  where
-    go : (x : Bool) → length (decimalUpTo k (n / 10)) ≤ k → length (cond x ((48 + n) ∷ []) (decimalUpTo k (n / 10) ++ (48 + n % 10) ∷ []))
-        ≤ suc k
-    go true l = omega arith
-    go false l = omega (arith, length-append (decimalUpTo k (n / 10)) ((48 + n % 10) ∷ []))
-
-pub ten-digits : (n : ℕ) → length (decimal n) ≤ 10
-unfolding decimal
-ten-digits n = decimal-up-to 10 n
-
-one-digit : (k n : ℕ) → n < 10 → length (decimalUpTo (suc k) n) ≤ 1
-one-digit k n h = rw (lt-ltb n 10 h) (omega arith)
-
-pub two-digits : (n : ℕ) → n < 100 → length (decimal n) ≤ 2
-unfolding decimal
-two-digits n h = go (ltb n 10) (one-digit 8 (n / 10) (omega arith))
-  where
-    go : (x : Bool) → length (decimalUpTo 9 (n / 10)) ≤ 1 → length (cond x ((48 + n) ∷ []) (decimalUpTo 9 (n / 10) ++ (48 + n % 10) ∷ []))
-        ≤ 2
-    go true l = omega arith
-    go false l = omega (arith, length-append (decimalUpTo 9 (n / 10)) ((48 + n % 10) ∷ []))
 
 -- ---- tokens and lines
 

@@ -1,10 +1,10 @@
 -- Document 01, "A small rule, worked": the text that the slice printer gives, for every input.
-use Prim.Native.Nat.{ℕ, zero, suc, _+_, _/_, _%_}
+use Prim.Native.Nat.{ℕ}
 use Prim.Native.String.{String}
 use mathlib.Core.Bool.{cond}
 use mathlib.Core.List.{List, [], _∷_, _++_}
 use lib.ListN.{length}
-use lib.Dec.{eqb, ltb}
+use lib.Dec.{eqb}
 use Rattle.expr.specs.Word.{Unary, Not, Neg, Zero, Binary, Add, Sub, Mul, Udiv, Urem, And, Or, Xor, Shl, Lshr, Equal, Ult, Ule, Slt}
 use Rattle.expr.specs.Token.{Token, Const, Symbol, Un, Bin, Ite}
 use Rattle.file.specs.Outcome.{Kind, Assume, Assert, Bound}
@@ -12,18 +12,8 @@ use Rattle.file.specs.File.{Input, Accepted, Refused}
 use Rattle.trace.specs.Trace.{Stmt, Assign, Test, readTrace}
 use Rattle.unwind.specs.Answer.{Traced, traceAnswer}
 use Rattle.slice.specs.Answer.{Sliced, sliceAnswer}
-use Rattle.show.specs.Ascii.{ascii}
-
--- ---- numbers in decimal
-
--- at most k digits, none of them a leading zero
-abbrev pub decimalUpTo : (k n : ℕ) → List ℕ
-decimalUpTo zero n = []
-decimalUpTo (suc k) n = cond (ltb n 10) ((48 + n) ∷ []) (decimalUpTo k (n / 10) ++ (48 + n % 10) ∷ [])
-
--- ten digits hold every word
-unfoldable pub decimal : ℕ → List ℕ
-decimal n = decimalUpTo 10 n
+use Rattle.write.specs.Ascii.{ascii}
+use Rattle.write.specs.Decimal.{decimal}
 
 -- ---- tokens by name, symbols as s and the number, constants in decimal
 

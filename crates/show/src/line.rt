@@ -25,11 +25,11 @@ fn put_line(trace: &[u8], at: usize, out: &mut [u8], to: usize) -> usize
     let e = read::expr_at(trace, at);
     let kind = trace[at + 2];
     let place = number::two_at(trace, at + 3);
-    let a = word::put_decimal(place as u32, out, to);
+    let a = write::fit_decimal(place as u32, out, to);
     if kind == 1 {
         let symbol = number::two_at(trace, at + 5);
         let b = write::fit_part(b" assign s", out, a);
-        let c = word::put_decimal(symbol as u32, out, b);
+        let c = write::fit_decimal(symbol as u32, out, b);
         let d = word::put_tokens(e, out, c);
         return write::fit_part(b"\n", out, d);
     }
@@ -44,9 +44,9 @@ fn put_first(inputs: usize, n: usize, out: &mut [u8]) -> usize
     ensures { λ r. ⌜ Wrote (now (out .entry)) 0 (firstLine inputs n) (now (out .exit)) r × (r ≤ 36) ⌝ }
 {
     let a = write::fit_part(b"inputs ", out, 0);
-    let b = word::put_decimal(inputs as u32, out, a);
+    let b = write::fit_decimal(inputs as u32, out, a);
     let c = write::fit_part(b" statements ", out, b);
-    let d = word::put_decimal(n as u32, out, c);
+    let d = write::fit_decimal(n as u32, out, c);
     write::fit_part(b"\n", out, d)
 }
 

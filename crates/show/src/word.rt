@@ -1,4 +1,4 @@
-// Numbers in decimal, and tokens by name. Every writer counts its letters and stores those that fit.
+// Tokens by name. Every writer counts its letters and stores those that fit.
 use expr::number;
 ghost use mathlib.Core.Path.{_≡_};
 ghost use mathlib.Core.Bool.{true};
@@ -11,47 +11,18 @@ ghost use Rattle.expr.specs.Expr.{below, parse};
 ghost use Rattle.expr.specs.Shown.{popsOf, isWhole, tokensOf, sizeOf, Stands};
 ghost use Rattle.file.specs.Shown.{kindOf};
 ghost use Rattle.write.specs.Splice.{Wrote};
-ghost use Rattle.show.specs.Ascii.{ascii};
-ghost use Rattle.show.specs.Text.{decimal, kindName, exprText, refusalText};
-ghost use Rattle.show.specs.Shown.{digitCount, nameOf, readText};
-
-// How many digits a number has.
-fn digits(v: u32) -> usize
-    ensures { λ r. ⌜ (r ≡ digitCount v) × (1 ≤ r) × (r ≤ 10) ⌝ }
-{
-    let mut k: usize = 1;
-    let mut rest = v / 10;
-    while 0 < rest {
-        rest /= 10;
-        k += 1;
-    }
-    k
-}
-
-pub fn put_decimal(v: u32, out: &mut [u8], at: usize) -> usize
-    requires { ⌜ at + 10 < 2 ^ 64 ⌝ }
-    ensures { λ r. ⌜ Wrote (now (out .entry)) at (decimal v) (now (out .exit)) r × (r ≤ at + 10) ⌝ }
-{
-    let k = digits(v);
-    let mut i = k;
-    let mut rest = v;
-    while 0 < i {
-        i -= 1;
-        let digit = 48 + (rest % 10) as u8;
-        write::store(digit, &mut *out, at + i);
-        rest /= 10;
-    }
-    at + k
-}
+ghost use Rattle.write.specs.Ascii.{ascii};
+ghost use Rattle.show.specs.Text.{kindName, exprText, refusalText};
+ghost use Rattle.show.specs.Shown.{nameOf, readText};
 
 // The refusal's line, from the buffer's first byte.
 pub fn put_refusal(reply: u32, offset: u32, out: &mut [u8]) -> usize
     ensures { λ r. ⌜ Wrote (now (out .entry)) 0 (refusalText reply offset) (now (out .exit)) r × (r ≤ 33) ⌝ }
 {
     let a = write::fit_part(b"refused ", out, 0);
-    let b = put_decimal(reply, out, a);
+    let b = write::fit_decimal(reply, out, a);
     let c = write::fit_part(b" at ", out, b);
-    let d = put_decimal(offset, out, c);
+    let d = write::fit_decimal(offset, out, c);
     write::fit_part(b"\n", out, d)
 }
 
@@ -112,7 +83,7 @@ fn put_token(e: &[u8], i: usize, out: &mut [u8], at: usize) -> Put
         let w = number::word_at(e, i + 1);
         return Put {
             size: 5,
-            to: put_decimal(w, out, a),
+            to: write::fit_decimal(w, out, a),
         };
     }
     if code == 0x03 {
@@ -120,7 +91,7 @@ fn put_token(e: &[u8], i: usize, out: &mut [u8], at: usize) -> Put
         let b = write::fit_byte(0x73, out, a);
         return Put {
             size: 3,
-            to: put_decimal(symbol as u32, out, b),
+            to: write::fit_decimal(symbol as u32, out, b),
         };
     }
     Put {

@@ -9,10 +9,10 @@ use mathlib.Core.List.{List, [], _∷_, _++_}
 use lib.ListN.{length, set, length-append}
 use lib.Dec.{eqb, ltb}
 use borrow.Author.Tests.{ltb-true, ltb-false, lt-ltb, eq-eqb, ne-eqb}
 use Rattle.write.specs.Splice.{splice, Wrote}
 use Rattle.write.specs.SpliceLaws.{splice-nil, length-splice, splice-behind}
-use Rattle.show.specs.Text.{decimalUpTo, decimal}
-use Rattle.show.specs.Shown.{digitCountUpTo, digitCount}
+use Rattle.write.specs.Decimal.{decimalUpTo, decimal}
+use Rattle.write.specs.Shown.{digitCountUpTo, digitCount}
 
 -- ---- counting
 

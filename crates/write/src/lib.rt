@@ -8,6 +8,8 @@ ghost use Rattle.expr.specs.Number.{bytesOf};
 ghost use Rattle.expr.specs.Token.{Const, Symbol, tokenBytes};
 ghost use Rattle.file.specs.File.{header};
 ghost use Rattle.write.specs.Splice.{Wrote};
+ghost use Rattle.write.specs.Decimal.{decimal};
+ghost use Rattle.write.specs.Shown.{digitCount};
 
 pub fn put_byte(b: u8, out: &mut [u8], at: usize) -> usize
     requires { ⌜ at + 1 ≤ length (now out) ⌝ }
@@ -109,4 +111,33 @@ pub fn fit_part(part: &[u8], out: &mut [u8], at: usize) -> usize
         i += 1;
     }
     at + i
+}
+
+// How many digits a number has.
+fn digits(v: u32) -> usize
+    ensures { λ r. ⌜ (r ≡ digitCount v) × (1 ≤ r) × (r ≤ 10) ⌝ }
+{
+    let mut k: usize = 1;
+    let mut rest = v / 10;
+    while 0 < rest {
+        rest /= 10;
+        k += 1;
+    }
+    k
+}
+
+pub fn fit_decimal(v: u32, out: &mut [u8], at: usize) -> usize
+    requires { ⌜ at + 10 < 2 ^ 64 ⌝ }
+    ensures { λ r. ⌜ Wrote (now (out .entry)) at (decimal v) (now (out .exit)) r × (r ≤ at + 10) ⌝ }
+{
+    let k = digits(v);
+    let mut i = k;
+    let mut rest = v;
+    while 0 < i {
+        i -= 1;
+        let digit = 48 + (rest % 10) as u8;
+        store(digit, &mut *out, at + i);
+        rest /= 10;
+    }
+    at + k
 }

@@ -1,9 +1,9 @@
 -- Each turn leaves a smaller number in front of the digits that are counted (`Counting`).
-use Rattle.show.proofs.word.digits.Statement.{statement}
-use Rattle.show.proofs.word.digits.Tie as tie
+use Rattle.write.proofs.digits.Statement.{statement}
+use Rattle.write.proofs.digits.Tie as tie
 use native.Mathlib.Omega.{arith}
 use borrow.Author.Needs.{needs}
-use Rattle.show.proofs.Decimal.{Counting, counting-start, count-on, counted}
+use Rattle.write.proofs.Decimal.{Counting, counting-start, count-on, counted}
 
 abbrev Inv-loop : tie.InvT-loop
 Inv-loop v k₀ rest₀ k rest = Counting v k rest

@@ -1,11 +1,11 @@
 -- The digits are stored from the last to the first; those still to be stored are the last ones of what is left (`Storing`).
-use Rattle.show.proofs.word.put_decimal.Statement.{statement}
-use Rattle.show.proofs.word.put_decimal.Tie as tie
+use Rattle.write.proofs.fit_decimal.Statement.{statement}
+use Rattle.write.proofs.fit_decimal.Tie as tie
 use native.Mathlib.Omega.{arith}
 use Prim.Native.Nat.{_-_, _/_}
 use mathlib.Core.Path.{sym, subst}
 use borrow.Author.Needs.{needs}
-use Rattle.show.proofs.Decimal.{Storing, storing-start, storing-length, store-on, stored}
+use Rattle.write.proofs.Decimal.{Storing, storing-start, storing-length, store-on, stored}
 
 abbrev Inv-loop : tie.InvT-loop
 Inv-loop v out₀ at k i₀ rest₀ out i rest = Storing v out₀ at k out i rest
@@ -63,8 +63,8 @@ returns : tie.Need-returns Inv-loop μ-loop
 returns c = let d = c .before .before .digits .ensures in
     (stored (c .before .loop .inv) (omega (arith, c .loop-test .left)) (d .0), omega (arith, d .2))
 
-pub put-decimal-spec : {M : Type 1} → statement M
-put-decimal-spec =
+pub fit-decimal-spec : {M : Type 1} → statement M
+fit-decimal-spec =
     tie.close
     (tie.spec
     Inv-loop

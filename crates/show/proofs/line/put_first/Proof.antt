@@ -4,7 +4,7 @@ use Rattle.show.proofs.line.put_first.Statement.{statement}
 use Rattle.show.proofs.line.put_first.Tie as tie
 use native.Mathlib.Omega.{arith}
 use Rattle.write.specs.SpliceLaws.{_then_}
-use Rattle.show.specs.SizeLaws.{two-digits}
+use Rattle.write.specs.DecimalLaws.{two-digits}
 
 slice-aggregate-fit-part : tie.Need-slice-aggregate-fit-part
 slice-aggregate-fit-part c = search needs
@@ -12,11 +12,11 @@ slice-aggregate-fit-part c = search needs
 fit-part-requires : tie.Need-fit-part-requires
 fit-part-requires c κs = search needs
 
-cast-put-decimal : tie.Need-cast-put-decimal
-cast-put-decimal c = search needs
+cast-fit-decimal : tie.Need-cast-fit-decimal
+cast-fit-decimal c = search needs
 
-put-decimal-requires : tie.Need-put-decimal-requires
-put-decimal-requires c κs = search needs
+fit-decimal-requires : tie.Need-fit-decimal-requires
+fit-decimal-requires c κs = search needs
 
 slice-aggregate-fit-part-2 : tie.Need-slice-aggregate-fit-part-2
 slice-aggregate-fit-part-2 c = search needs
@@ -24,15 +24,15 @@ slice-aggregate-fit-part-2 c = search needs
 fit-part-requires-2 : tie.Need-fit-part-requires-2
 fit-part-requires-2 c κs = search needs
 
-cast-put-decimal-2 : tie.Need-cast-put-decimal-2
-cast-put-decimal-2 c = search needs
+cast-fit-decimal-2 : tie.Need-cast-fit-decimal-2
+cast-fit-decimal-2 c = search needs
 
-put-decimal-requires-2 : tie.Need-put-decimal-requires-2
-put-decimal-requires-2 c κs =
+fit-decimal-requires-2 : tie.Need-fit-decimal-requires-2
+fit-decimal-requires-2 c κs =
     let start = c .before .before .before .before .before .before .before .before .before .before .before .before .before .before .before
     .before in
-    let put-decimal = c .before .before .before .before .before .before .before .before .put-decimal in
-    search (needs, two-digits (start .args .inputs) (omega (arith, start .pre .0)), put-decimal .ensures .0 .next)
+    let fit-decimal = c .before .before .before .before .before .before .before .before .fit-decimal in
+    search (needs, two-digits (start .args .inputs) (omega (arith, start .pre .0)), fit-decimal .ensures .0 .next)
 
 slice-aggregate-fit-part-3 : tie.Need-slice-aggregate-fit-part-3
 slice-aggregate-fit-part-3 c = search needs
@@ -41,9 +41,9 @@ fit-part-requires-3 : tie.Need-fit-part-requires-3
 fit-part-requires-3 c κs =
     let start = c .before .before .before .before .before .before .before .before .before .before .before .before .before .before .before
     .before .before .before .before .before .before in
-    let put-decimal = c .before .before .before .before .before .before .before .before .before .before .before .before .before
-    .put-decimal in
-    search (needs, two-digits (start .args .inputs) (omega (arith, start .pre .0)), put-decimal .ensures .0 .next)
+    let fit-decimal = c .before .before .before .before .before .before .before .before .before .before .before .before .before
+    .fit-decimal in
+    search (needs, two-digits (start .args .inputs) (omega (arith, start .pre .0)), fit-decimal .ensures .0 .next)
 
 same-length : tie.Need-same-length
 same-length c = search needs
@@ -54,19 +54,19 @@ returns c =
     .before .before .before .before .before .before .before .before .before in
     let fit-part = c .before .before .before .before .before .before .before .before .before .before .before .before .before .before
     .before .before .before .before .before .before .fit-part in
-    let put-decimal = c .before .before .before .before .before .before .before .before .before .before .before .before .before .before
-    .before .before .put-decimal in
+    let fit-decimal = c .before .before .before .before .before .before .before .before .before .before .before .before .before .before
+    .before .before .fit-decimal in
     let fit-part2 = c .before .before .before .before .before .before .before .before .before .before .before .fit-part2 in
-    let put-decimal2 = c .before .before .before .before .before .before .before .put-decimal2 in
+    let fit-decimal2 = c .before .before .before .before .before .before .before .fit-decimal2 in
     let fit-part3 = c .before .before .fit-part3 in (
-      (((fit-part .ensures then put-decimal .ensures .0) then fit-part2 .ensures) then put-decimal2 .ensures .0) then fit-part3 .ensures,
+      (((fit-part .ensures then fit-decimal .ensures .0) then fit-part2 .ensures) then fit-decimal2 .ensures .0) then fit-part3 .ensures,
       omega (
         arith,
         two-digits (start .args .inputs) (omega (arith, start .pre .0)),
         fit-part .ensures .next,
-        put-decimal .ensures .0 .next,
+        fit-decimal .ensures .0 .next,
         fit-part2 .ensures .next,
-        put-decimal2 .ensures .1,
+        fit-decimal2 .ensures .1,
         fit-part3 .ensures .next,
       ),
     )
@@ -77,12 +77,12 @@ put-first-spec =
     (tie.spec
     slice-aggregate-fit-part
     fit-part-requires
-    cast-put-decimal
-    put-decimal-requires
+    cast-fit-decimal
+    fit-decimal-requires
     slice-aggregate-fit-part-2
     fit-part-requires-2
-    cast-put-decimal-2
-    put-decimal-requires-2
+    cast-fit-decimal-2
+    fit-decimal-requires-2
     slice-aggregate-fit-part-3
     fit-part-requires-3
     same-length

@@ -48,11 +48,11 @@ add-two-at c = search needs
 two-at-requires : tie.Need-two-at-requires
 two-at-requires c κs = omega (arith, here (c .before .before .before .before) .whole, some (c .before))
 
-cast-put-decimal : tie.Need-cast-put-decimal
-cast-put-decimal c = search needs
+cast-fit-decimal : tie.Need-cast-fit-decimal
+cast-fit-decimal c = search needs
 
-put-decimal-requires : tie.Need-put-decimal-requires
-put-decimal-requires c κs = search needs
+fit-decimal-requires : tie.Need-fit-decimal-requires
+fit-decimal-requires c κs = search needs
 
 add-two-at-2 : tie.Need-add-two-at-2
 add-two-at-2 c = search needs
@@ -67,11 +67,11 @@ slice-aggregate-fit-part c = search needs
 fit-part-requires : tie.Need-fit-part-requires
 fit-part-requires c κs = search (needs, assigns (c .before .before .before))
 
-cast-put-decimal-2 : tie.Need-cast-put-decimal-2
-cast-put-decimal-2 c = search needs
+cast-fit-decimal-2 : tie.Need-cast-fit-decimal-2
+cast-fit-decimal-2 c = search needs
 
-put-decimal-requires-2 : tie.Need-put-decimal-requires-2
-put-decimal-requires-2 c κs = search (needs, assigns (c .before .before .before .before .before .before .before))
+fit-decimal-requires-2 : tie.Need-fit-decimal-requires-2
+fit-decimal-requires-2 c κs = search (needs, assigns (c .before .before .before .before .before .before .before))
 
 put-tokens-requires : tie.Need-put-tokens-requires
 put-tokens-requires c κs =
@@ -104,25 +104,25 @@ returns c =
     .before .before .before .before .before .before .before .before .before .before .before .expr-at in
     let two-at = c .before .before .before .before .before .before .before .before .before .before .before .before .before .before .before
     .before .before .before .before .before .before .before .before .before .two-at in
-    let put-decimal = c .before .before .before .before .before .before .before .before .before .before .before .before .before .before
-    .before .before .before .before .before .before .before .before .put-decimal in
+    let fit-decimal = c .before .before .before .before .before .before .before .before .before .before .before .before .before .before
+    .before .before .before .before .before .before .before .before .fit-decimal in
     let after-if1 = c .before .before .before .before .before .before .before .before .before .before .before .before .before .before
     .before .before .before .before .before in
     let two-at2 = c .before .before .before .before .before .before .before .before .before .before .before .before .before .before .before
     .before .before .before .two-at2 in
     let fit-part = c .before .before .before .before .before .before .before .before .before .before .before .before .before .before
     .before .fit-part in
-    let put-decimal2 = c .before .before .before .before .before .before .before .before .before .before .before .put-decimal2 in
+    let fit-decimal2 = c .before .before .before .before .before .before .before .before .before .before .before .fit-decimal2 in
     let put-tokens = c .before .before .before .before .before .before .before .put-tokens in
     let fit-part2 = c .before .before .fit-part2 in (
       wrote-as (assign-line (here start) (expr-at .ensures) (after-if1 .if1 .taken) _ _ (two-at .ensures .0) (two-at2 .ensures .0))
-          ((((put-decimal .ensures .0 then fit-part .ensures) then put-decimal2 .ensures .0) then put-tokens .ensures .0) then
+          ((((fit-decimal .ensures .0 then fit-part .ensures) then fit-decimal2 .ensures .0) then put-tokens .ensures .0) then
           fit-part2 .ensures),
       omega (
         arith,
-        put-decimal .ensures .1,
+        fit-decimal .ensures .1,
         fit-part .ensures .next,
-        put-decimal2 .ensures .1,
+        fit-decimal2 .ensures .1,
         put-tokens .ensures .1,
         fit-part2 .ensures .next,
         assigns after-if1,
@@ -163,16 +163,16 @@ returns-2 c =
     .before .before .before .before .before .expr-at in
     let two-at = c .before .before .before .before .before .before .before .before .before .before .before .before .before .before .before
     .before .before .before .two-at in
-    let put-decimal = c .before .before .before .before .before .before .before .before .before .before .before .before .before .before
-    .before .before .put-decimal in
+    let fit-decimal = c .before .before .before .before .before .before .before .before .before .before .before .before .before .before
+    .before .before .fit-decimal in
     let after-if1 = c .before .before .before .before .before .before .before .before .before .before .before .before .before in
     let put-kind = c .before .before .before .before .before .before .before .before .before .before .before .put-kind in
     let put-tokens2 = c .before .before .before .before .before .before .before .put-tokens2 in
     let fit-part3 = c .before .before .fit-part3 in (
       wrote-as (test-line (here start) (expr-at .ensures) (after-if1 .if1 .left) _ (two-at .ensures .0))
-          (((put-decimal .ensures .0 then put-kind .ensures .0) then put-tokens2 .ensures .0) then fit-part3 .ensures),
+          (((fit-decimal .ensures .0 then put-kind .ensures .0) then put-tokens2 .ensures .0) then fit-part3 .ensures),
       omega
-          (arith, put-decimal .ensures .1, put-kind .ensures .1, put-tokens2 .ensures .1, fit-part3 .ensures .next, tests after-if1),
+          (arith, fit-decimal .ensures .1, put-kind .ensures .1, put-tokens2 .ensures .1, fit-part3 .ensures .next, tests after-if1),
     )
 
 pub put-line-spec : {M : Type 1} → statement M
@@ -184,14 +184,14 @@ put-line-spec =
     shared-slice-read-kind
     add-two-at
     two-at-requires
-    cast-put-decimal
-    put-decimal-requires
+    cast-fit-decimal
+    fit-decimal-requires
     add-two-at-2
     two-at-requires-2
     slice-aggregate-fit-part
     fit-part-requires
-    cast-put-decimal-2
-    put-decimal-requires-2
+    cast-fit-decimal-2
+    fit-decimal-requires-2
     put-tokens-requires
     slice-aggregate-fit-part-2
     fit-part-requires-2

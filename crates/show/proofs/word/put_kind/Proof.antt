@@ -8,7 +8,7 @@ use mathlib.Core.List.{_++_}
 use borrow.Author.Tests.{eq-eqb, ne-eqb}
 use Rattle.write.specs.SpliceLaws.{wrote-as}
 use Rattle.file.specs.Outcome.{Assume, Assert}
-use Rattle.show.specs.Ascii.{ascii}
+use Rattle.write.specs.Ascii.{ascii}
 use Rattle.show.specs.Text.{kindName}
 
 slice-aggregate-fit-part : tie.Need-slice-aggregate-fit-part

@@ -10,8 +10,8 @@ slice-aggregate-fit-part c = search needs
 fit-part-requires : tie.Need-fit-part-requires
 fit-part-requires c κs = search needs
 
-put-decimal-requires : tie.Need-put-decimal-requires
-put-decimal-requires c κs = search needs
+fit-decimal-requires : tie.Need-fit-decimal-requires
+fit-decimal-requires c κs = search needs
 
 slice-aggregate-fit-part-2 : tie.Need-slice-aggregate-fit-part-2
 slice-aggregate-fit-part-2 c = search needs
@@ -19,8 +19,8 @@ slice-aggregate-fit-part-2 c = search needs
 fit-part-requires-2 : tie.Need-fit-part-requires-2
 fit-part-requires-2 c κs = search needs
 
-put-decimal-requires-2 : tie.Need-put-decimal-requires-2
-put-decimal-requires-2 c κs = search needs
+fit-decimal-requires-2 : tie.Need-fit-decimal-requires-2
+fit-decimal-requires-2 c κs = search needs
 
 slice-aggregate-fit-part-3 : tie.Need-slice-aggregate-fit-part-3
 slice-aggregate-fit-part-3 c = search needs
@@ -35,18 +35,18 @@ returns : tie.Need-returns
 returns c =
     let fit-part = c .before .before .before .before .before .before .before .before .before .before .before .before .before .before
     .before .before .before .before .before .before .fit-part in
-    let put-decimal = c .before .before .before .before .before .before .before .before .before .before .before .before .before .before
-    .before .before .put-decimal in
+    let fit-decimal = c .before .before .before .before .before .before .before .before .before .before .before .before .before .before
+    .before .before .fit-decimal in
     let fit-part2 = c .before .before .before .before .before .before .before .before .before .before .before .fit-part2 in
-    let put-decimal2 = c .before .before .before .before .before .before .before .put-decimal2 in
+    let fit-decimal2 = c .before .before .before .before .before .before .before .fit-decimal2 in
     let fit-part3 = c .before .before .fit-part3 in (
-      (((fit-part .ensures then put-decimal .ensures .0) then fit-part2 .ensures) then put-decimal2 .ensures .0) then fit-part3 .ensures,
+      (((fit-part .ensures then fit-decimal .ensures .0) then fit-part2 .ensures) then fit-decimal2 .ensures .0) then fit-part3 .ensures,
       omega (
         arith,
         fit-part .ensures .next,
-        put-decimal .ensures .1,
+        fit-decimal .ensures .1,
         fit-part2 .ensures .next,
-        put-decimal2 .ensures .1,
+        fit-decimal2 .ensures .1,
         fit-part3 .ensures .next,
       ),
     )
@@ -57,10 +57,10 @@ put-refusal-spec =
     (tie.spec
     slice-aggregate-fit-part
     fit-part-requires
-    put-decimal-requires
+    fit-decimal-requires
     slice-aggregate-fit-part-2
     fit-part-requires-2
-    put-decimal-requires-2
+    fit-decimal-requires-2
     slice-aggregate-fit-part-3
     fit-part-requires-3
     same-length

@@ -6,8 +6,8 @@ use native.Mathlib.Omega.{arith}
 use lib.ListN.{getD}
 use mathlib.Core.List.{_++_}
 use Rattle.write.specs.SpliceLaws.{_then_}
-use Rattle.show.specs.Ascii.{ascii}
-use Rattle.show.specs.Text.{decimal}
+use Rattle.write.specs.Ascii.{ascii}
+use Rattle.write.specs.Decimal.{decimal}
 use Rattle.show.specs.Shown.{nameOf}
 use Rattle.show.proofs.Exprs.{Is, token-wrote, some-size, constant, constant-is, symbol, symbol-is, operates, operator-text}
 
@@ -51,8 +51,8 @@ word-at-requires c κs =
           (c .before .before .before .before .before .before .before .before .pre .1) (c .if1 .taken) .there,
     )
 
-put-decimal-requires : tie.Need-put-decimal-requires
-put-decimal-requires c κs = search (needs, constant-here (c .before) .size)
+fit-decimal-requires : tie.Need-fit-decimal-requires
+fit-decimal-requires c κs = search (needs, constant-here (c .before) .size)
 
 same-length : tie.Need-same-length
 same-length c = search needs
@@ -61,11 +61,11 @@ returns : tie.Need-returns
 returns c =
     token-wrote (constant-here (c .before .before .before .before))
     (c .before .before .before .before .before .before .before .before .before .fit-byte .ensures then
-    c .before .before .put-decimal .ensures .0)
+    c .before .before .fit-decimal .ensures .0)
     (omega (
       arith,
       c .before .before .before .before .before .before .before .before .before .fit-byte .ensures .next,
-      c .before .before .put-decimal .ensures .1,
+      c .before .before .fit-decimal .ensures .1,
     ))
 
 add-two-at : tie.Need-add-two-at
@@ -82,11 +82,11 @@ two-at-requires c κs =
 fit-byte-requires-2 : tie.Need-fit-byte-requires-2
 fit-byte-requires-2 c κs = search (needs, symbol-here (c .before) .size)
 
-cast-put-decimal : tie.Need-cast-put-decimal
-cast-put-decimal c = search needs
+cast-fit-decimal : tie.Need-cast-fit-decimal
+cast-fit-decimal c = search needs
 
-put-decimal-requires-2 : tie.Need-put-decimal-requires-2
-put-decimal-requires-2 c κs = search (needs, symbol-here (c .before .before .before .before .before) .size)
+fit-decimal-requires-2 : tie.Need-fit-decimal-requires-2
+fit-decimal-requires-2 c κs = search (needs, symbol-here (c .before .before .before .before .before) .size)
 
 same-length-2 : tie.Need-same-length-2
 same-length-2 c = search needs
@@ -97,9 +97,9 @@ returns-2 c =
     .fit-byte in
     let after-two-at = c .before .before .before .before .before .before .before .before in
     let fit-byte2 = c .before .before .before .before .before .before .fit-byte2 in
-    let put-decimal2 = c .before .before .put-decimal2 in
-    token-wrote (symbol-here after-two-at) (fit-byte .ensures then fit-byte2 .ensures then put-decimal2 .ensures .0)
-    (omega (arith, fit-byte .ensures .next, fit-byte2 .ensures .next, put-decimal2 .ensures .1))
+    let fit-decimal2 = c .before .before .fit-decimal2 in
+    token-wrote (symbol-here after-two-at) (fit-byte .ensures then fit-byte2 .ensures then fit-decimal2 .ensures .0)
+    (omega (arith, fit-byte .ensures .next, fit-byte2 .ensures .next, fit-decimal2 .ensures .1))
 
 put-name-requires : tie.Need-put-name-requires
 put-name-requires c κs = (
@@ -131,14 +131,14 @@ put-token-spec =
     shared-slice-read-code
     add-word-at
     word-at-requires
-    put-decimal-requires
+    fit-decimal-requires
     same-length
     returns
     add-two-at
     two-at-requires
     fit-byte-requires-2
-    cast-put-decimal
-    put-decimal-requires-2
+    cast-fit-decimal
+    fit-decimal-requires-2
     same-length-2
     returns-2
     put-name-requires
