@@ -5,9 +5,10 @@ use mathlib.Core.Logic.{_↔_}
 use mathlib.Core.List.{List}
 use lib.ListN.{length, getD}
 use Rattle.file.specs.File.{headerInputs}
+use Rattle.file.specs.WordsLaws.{words-at}
 use Rattle.table.specs.Answer.{runAnswer}
 use Rattle.trace.specs.Answer.{judgeAnswer}
-use Rattle.kadvitul.specs.InterfaceLaws.{asWords, as-words-length, as-words-right, words-at, run-as-words, judge-as-words}
+use Rattle.kadvitul.specs.InterfaceLaws.{asWords, as-words-length, as-words-right, run-as-words, judge-as-words}
 use Rattle.demands.specs.Valuation.{Handed, Words, Bytes, lengthFor, inputIn, ranWith, judgedWith}
 
 -- the words of a valuation of S inputs; where its length is wrong, so is theirs

@@ -4,12 +4,13 @@ use expr::accept;
 use expr::accept::Checked;
 use expr::number;
 ghost use mathlib.Core.Path.{_≡_};
-ghost use Prim.Native.Nat.{_+_, _≤_};
+ghost use Prim.Native.Nat.{_+_, _*_, _≤_};
 ghost use lib.ListN.{length, drop};
 ghost use lib.Seq.{sets};
 ghost use Rattle.expr.specs.Number.{numberOf};
 ghost use Rattle.expr.specs.Expr.{readable, parse};
 ghost use Rattle.file.specs.File.{headerReply, frame};
+ghost use Rattle.file.specs.Words.{wordsOf};
 ghost use Rattle.file.specs.Shown.{exprReply, restOf};
 
 // How far the records of a file were read: a reply with its offset, 0 if all are there and nothing after them; and the number of records
@@ -87,6 +88,18 @@ pub fn copy_words(words: &[u32], cells: &mut [u32])
     let mut s: usize = 0;
     while s < words.len() {
         cells[s] = words[s];
+        s += 1;
+    }
+}
+
+// Stores `count` words, which are handed as bytes, at the front of an array.
+pub fn decode(bytes: &[u8], count: usize, words: &mut [u32])
+    requires { ⌜ (4 * count ≤ length (now bytes)) × (count ≤ length (now words)) ⌝ }
+    ensures { λ _. ⌜ now (words .exit) ≡ sets (now (words .entry)) 0 (wordsOf count (now (bytes .entry))) ⌝ }
+{
+    let mut s: usize = 0;
+    while s < count {
+        words[s] = number::word_at(bytes, 4 * s);
         s += 1;
     }
 }

@@ -21,15 +21,11 @@ use Rattle.unwind.specs.Unwind.{unwind}
 use Rattle.unwind.specs.Answer.{traceAnswer}
 use Rattle.slice.specs.Slice.{slice}
 use Rattle.slice.specs.Answer.{sliceAnswer}
-use Rattle.kadvitul.specs.Interface.{wordsOf, runBytes, judgeBytes}
+use Rattle.kadvitul.specs.Interface.{runBytes, judgeBytes}
 use Rattle.kadvitul.specs.Interface.{RunReply, RunOffset, RunVerdict, RunPlace, RunBackJumps, runNumber}
 use Rattle.kadvitul.specs.Interface.{JudgeReply, JudgeOffset, JudgeVerdict, JudgePlace, judgeNumber}
 use Rattle.kadvitul.specs.Interface.{TraceReply, TraceOffset, TraceLength, traceNumber}
 use Rattle.kadvitul.specs.Interface.{SliceReply, SliceOffset, SliceLength, SliceMask, SliceInputs, sliceNumber}
-
--- four bytes a word, the highest first
-words : wordsOf 2 (0x00 ∷ 0x00 ∷ 0x01 ∷ 0x02 ∷ 0xFF ∷ 0x00 ∷ 0x00 ∷ 0x03 ∷ []) ≡ 258 ∷ 4278190083 ∷ []
-words = refl
 
 -- m3; any other length than 4 × S is 11; 8 comes before it
 runs : (runBytes smallRule 1 (0x00 ∷ 0x00 ∷ 0x00 ∷ 0x01 ∷ []) ≡ unsafeAt 8 1) × (runBytes smallRule 1 (0x00 ∷ []) ≡ refusal 11 0)

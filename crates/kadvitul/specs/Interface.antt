@@ -1,13 +1,13 @@
 -- Document 01, "What is built": the C job hands a valuation as 4×S big-endian bytes; any other length is refusal 11. Each call returns
 -- one number of the answer.
-use Prim.Native.Nat.{ℕ, zero, suc, _*_}
+use Prim.Native.Nat.{ℕ, _*_}
 use mathlib.Core.Path.{_≡_}
 use mathlib.Core.Bool.{cond}
-use mathlib.Core.List.{List, [], _∷_}
-use lib.ListN.{length, drop}
+use mathlib.Core.List.{List}
+use lib.ListN.{length}
 use lib.Dec.{eqb, leb}
-use Rattle.expr.specs.Number.{numberOf}
 use Rattle.file.specs.File.{Input, Accepted, Refused}
+use Rattle.file.specs.Words.{wordsOf}
 use Rattle.table.specs.declared.Answer.{Answer}
 use Rattle.trace.specs.declared.Answer as Judged
 use Rattle.table.specs.Table.{Instr, readTable}
@@ -20,11 +20,6 @@ use Rattle.trace.specs.Answer as Judging
 use Rattle.write.specs.Splice.{over}
 use Rattle.unwind.specs.Answer.{Traced, traceAnswer}
 use Rattle.slice.specs.Answer.{Sliced, sliceAnswer}
-
--- the first c words of a valuation
-abbrev pub wordsOf : (c : ℕ) → List ℕ → List ℕ
-wordsOf zero bs = []
-wordsOf (suc c) bs = numberOf 4 bs ∷ wordsOf c (drop 4 bs)
 
 abbrev pub answeredBytes : (K : ℕ) (valuation : List ℕ) → Input Instr → Answer
 answeredBytes K valuation (Refused reply offset) = refusal reply offset

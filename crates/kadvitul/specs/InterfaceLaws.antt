@@ -1,19 +1,19 @@
 -- A valuation of bytes is the valuation of its words: in the definitions, and in the code that stores them.
-use Prim.Native.Nat.{ℕ, zero, suc, _+_, _*_, _≤_, _<_}
+use Prim.Native.Nat.{ℕ, suc, _*_, _≤_}
 use native.Mathlib.Omega.{arith}
 use native.Mathlib.Decide.{decLt}
-use native.Mathlib.Numerals.{add-one}
-use mathlib.Core.Path.{_≡_, refl, sym, ap, ap₂, _∙_}
+use mathlib.Core.Path.{_≡_, refl, sym, ap, _∙_}
 use mathlib.Core.Logic.{_↔_}
 use mathlib.Core.Bool.{Bool, true, false, cond}
-use mathlib.Core.List.{List, [], _∷_, _++_}
-use lib.ListN.{length, take, drop, getD, set, replicate, length-replicate}
-use lib.Seq.{length-take-le, length-sets, drop-drop, sets, sets-eq, take-at}
+use mathlib.Core.List.{List}
+use lib.ListN.{length, take, replicate, length-replicate}
+use lib.Seq.{length-take-le, length-sets, sets}
 use lib.Dec.{eqb, leb}
 use borrow.Author.Tests.{eqb-true, eqb-false, eq-eqb, ne-eqb}
-use Rattle.expr.specs.Number.{numberOf}
 use Rattle.file.specs.File.{headerInputs, Input, Accepted, Refused}
-use Rattle.file.specs.FileLaws.{header-is, file-is, sets-snoc}
+use Rattle.file.specs.FileLaws.{header-is, file-is}
+use Rattle.file.specs.Words.{wordsOf}
+use Rattle.file.specs.WordsLaws.{words-length, words-front}
 use Rattle.table.specs.Table.{Instr, instrs, readTable}
 use Rattle.table.specs.TableLaws.{table-inputs}
 use Rattle.table.specs.Run.{run}
@@ -24,22 +24,8 @@ use Rattle.trace.specs.TraceLaws.{trace-inputs}
 use Rattle.trace.specs.Judge.{judge}
 use Rattle.trace.specs.Answer as Judging
 use Rattle.trace.specs.Answer.{judgeAnswer}
-use Rattle.kadvitul.specs.Interface.{wordsOf, answeredBytes, runBytes, judgedBytes, judgeBytes}
+use Rattle.kadvitul.specs.Interface.{answeredBytes, runBytes, judgedBytes, judgeBytes}
 use Rattle.kadvitul.specs.Shown.{Decoded}
-
-pub words-length : (c : ℕ) (bs : List ℕ) → length (wordsOf c bs) ≡ c
-words-length zero bs = refl
-words-length (suc c) bs = ap suc (words-length c (drop 4 bs))
-
-pub words-next : (c : ℕ) (bs : List ℕ) → wordsOf (c + 1) bs ≡ wordsOf c bs ++ numberOf 4 (drop (4 * c) bs) ∷ []
-words-next c bs = ap (λ n. wordsOf n bs) (add-one c) ∙ go c bs
-  where
-    go : (c : ℕ) (bs : List ℕ) → wordsOf (suc c) bs ≡ wordsOf c bs ++ numberOf 4 (drop (4 * c) bs) ∷ []
-    go zero bs = refl
-    go (suc c) bs =
-        ap {B = List ℕ} (λ r. numberOf 4 bs ∷ r) (go c (drop 4 bs))
-        ∙ ap {B = List ℕ} (λ r. numberOf 4 bs ∷ wordsOf c (drop 4 bs) ++ numberOf 4 r ∷ []) (drop-drop (4 * c) 4 bs
-        ∙ ap (λ n. drop n bs) (let e : 4 + 4 * c ≡ 4 * suc c = omega arith in e))
 
 -- ---- running and judging from bytes is running and judging from words
 
@@ -59,14 +45,6 @@ as-words-length S valuation =
         → length valuation ≡ 4 * S
     go true e h = eqb-true (length valuation) (4 * S) e
     go false e h = absurd (omega (arith, length-replicate {A = ℕ} (suc S) 0))
-
--- word s of a valuation
-pub words-at : (c : ℕ) (bs : List ℕ) (s : ℕ) → s < c → getD (wordsOf c bs) s 0 ≡ numberOf 4 (drop (4 * s) bs)
-words-at zero bs s h = absurd (omega arith)
-words-at (suc c) bs zero h = refl
-words-at (suc c) bs (suc s) h =
-    words-at c (drop 4 bs) s (omega arith)
-    ∙ ap (numberOf 4) (drop-drop (4 * s) 4 bs ∙ ap (λ n. drop n bs) (let e : 4 + 4 * s ≡ 4 * suc s = omega arith in e))
 
 -- what is answered for S words is answered for 4 × S bytes
 as-answered : {R : Type 0} (S : ℕ) (valuation : List ℕ) (answer : List ℕ → R) (refused : R)
@@ -152,20 +130,6 @@ module _ {valuation words : List ℕ} {count : ℕ} (d : Decoded valuation words
           let f = file-is 129 4096 stmts s S ts e in
           same-words S (omega (arith, header-is 129 4096 s (f .header) .inputs, f .inputs)) (λ ws. Judging.answerOf (judge ts (envOf ws)))
           (Judging.refusal 11 0)
-
--- the words stored at the front of an array
-words-front : (xs : List ℕ) (c : ℕ) (bs : List ℕ) → c ≤ length xs → take c (sets xs 0 (wordsOf c bs)) ≡ wordsOf c bs
-words-front xs c bs h =
-    ap (take c) (sets-eq (wordsOf c bs) xs 0 (omega (arith, words-length c bs)))
-    ∙ take-at (wordsOf c bs) (drop (0 + length (wordsOf c bs)) xs) c (words-length c bs)
-
--- one word more
-pub words-store : (xs : List ℕ) (c : ℕ) (bs : List ℕ) (w : ℕ) → w ≡ numberOf 4 (drop (4 * c) bs)
-    → set (sets xs 0 (wordsOf c bs)) c w ≡ sets xs 0 (wordsOf (c + 1) bs)
-words-store xs c bs w h =
-    ap₂ (λ k v. set (sets xs 0 (wordsOf c bs)) k v) (let e : c ≡ 0 + length (wordsOf c bs) = omega (arith, words-length c bs) in e) h
-    ∙ sym (sets-snoc xs 0 (wordsOf c bs) (numberOf 4 (drop (4 * c) bs)))
-    ∙ sym (ap (sets xs 0) (words-next c bs))
 
 -- what the code stores
 pub no-words : {valuation words : List ℕ} → length words ≡ 65 → ((c : ℕ) → c ≤ 64 → length valuation ≡ 4 * c → ⊥)

@@ -3,7 +3,7 @@ use Prim.Native.Nat.{ℕ, _*_, _≤_, _<_}
 use mathlib.Core.Path.{_≡_}
 use mathlib.Core.List.{List}
 use lib.ListN.{length, take}
-use Rattle.kadvitul.specs.Interface.{wordsOf}
+use Rattle.file.specs.Words.{wordsOf}
 
 -- the words that stand before the first `count` of an array: all of a valuation, or 65 for one that is of no file
 pub record Decoded (valuation words : List ℕ) (count : ℕ) : Type 0 where

@@ -1,27 +1,13 @@
 // The C interface: one number of an answer for each call. `include/kadvitul.h` declares it.
-use expr::number;
 ghost use mathlib.Core.Path.{_≡_};
-ghost use Prim.Native.Nat.{_/_, _*_, _≤_};
+ghost use Prim.Native.Nat.{_/_, _*_};
 ghost use lib.ListN.{length};
-ghost use lib.Seq.{sets};
-ghost use Rattle.kadvitul.specs.Interface.{wordsOf, runBytes, judgeBytes, VersionGives, RunGives, JudgeGives, TraceGives, SliceGives};
+ghost use Rattle.kadvitul.specs.Interface.{runBytes, judgeBytes, VersionGives, RunGives, JudgeGives, TraceGives, SliceGives};
 ghost use Rattle.kadvitul.specs.Interface.{RunReply, RunOffset, RunVerdict, RunPlace, RunBackJumps};
 ghost use Rattle.kadvitul.specs.Interface.{JudgeReply, JudgeOffset, JudgeVerdict, JudgePlace};
 ghost use Rattle.kadvitul.specs.Interface.{TraceReply, TraceOffset, TraceLength};
 ghost use Rattle.kadvitul.specs.Interface.{SliceReply, SliceOffset, SliceLength, SliceMask, SliceInputs};
 ghost use Rattle.kadvitul.specs.Shown.{Decoded};
-
-// Stores `count` words of a valuation.
-fn decode(valuation: &[u8], count: usize, words: &mut [u32])
-    requires { ⌜ (4 * count ≤ length (now valuation)) × (count ≤ length (now words)) ⌝ }
-    ensures { λ _. ⌜ now (words .exit) ≡ sets (now (words .entry)) 0 (wordsOf count (now (valuation .entry))) ⌝ }
-{
-    let mut s: usize = 0;
-    while s < count {
-        words[s] = number::word_at(valuation, 4 * s);
-        s += 1;
-    }
-}
 
 // The words of a valuation, and how many there are. Bytes that are no whole number of words, or of more than 64, count as 65 words, which
 // no file has.
@@ -37,7 +23,7 @@ fn words_in(valuation: &[u8], words: &mut [u32]) -> usize
     if 64 < count {
         return 65;
     }
-    decode(valuation, count, words);
+    file::decode(valuation, count, words);
     count
 }
 

@@ -4,22 +4,22 @@ use native.Mathlib.Omega.{arith}
 use mathlib.Core.Path.{_≡_, refl, ap, _∙_}
 use lib.ListN.{length, set}
 use lib.Seq.{sets, length-sets}
-use Rattle.kadvitul.specs.Interface.{wordsOf}
-use Rattle.kadvitul.specs.InterfaceLaws.{words-store}
-use Rattle.kadvitul.proofs.decode.Statement.{statement}
-use Rattle.kadvitul.proofs.decode.Tie as tie
+use Rattle.file.specs.Words.{wordsOf}
+use Rattle.file.specs.WordsLaws.{words-store}
+use Rattle.file.proofs.decode.Statement.{statement}
+use Rattle.file.proofs.decode.Tie as tie
 
 abbrev Inv-loop : tie.InvT-loop
-Inv-loop valuation count words₀ s₀ words s = (s ≤ count) × (words ≡ sets words₀ 0 (wordsOf s valuation))
+Inv-loop bytes count words₀ s₀ words s = (s ≤ count) × (words ≡ sets words₀ 0 (wordsOf s bytes))
 
 abbrev μ-loop : tie.MeasureT-loop
-μ-loop valuation count words₀ s₀ words s = count - s
+μ-loop bytes count words₀ s₀ words s = count - s
 
 -- stores keep the length
 long : (c : tie.At-loop Inv-loop μ-loop) → length (c .loop .words) ≡ length (c .before .before .before .args .words .now)
 long c =
     ap length (c .loop .inv .1) ∙ length-sets (c .before .before .before .args .words .now) 0
-    (wordsOf (c .loop .s) (c .before .before .before .args .valuation .now))
+    (wordsOf (c .loop .s) (c .before .before .before .args .bytes .now))
 
 loop-holds : tie.Need-loop-holds Inv-loop μ-loop
 loop-holds c = (omega arith, refl)
@@ -48,7 +48,7 @@ loop-again c =
       omega arith,
       ap (λ x. set x (v .s) (c .word-at .result)) (v .inv .1)
           ∙ words-store (c .before .before .before .before .before .args .words .now) (v .s)
-          (c .before .before .before .before .before .args .valuation .now) (c .word-at .result) (c .word-at .ensures),
+          (c .before .before .before .before .before .args .bytes .now) (c .word-at .result) (c .word-at .ensures),
     )
 
 same-length : tie.Need-same-length Inv-loop μ-loop
@@ -57,7 +57,7 @@ same-length c = long (c .before)
 returns : tie.Need-returns Inv-loop μ-loop
 returns c =
     c .before .loop .inv .1 ∙ ap (λ n. sets (c .before .before .before .before .args .words .now) 0
-    (wordsOf n (c .before .before .before .before .args .valuation .now)))
+    (wordsOf n (c .before .before .before .before .args .bytes .now)))
     (let e : c .before .loop .s ≡ c .before .before .before .before .args .count = omega arith in e)
 
 pub decode-spec : {M : Type 1} → statement M
