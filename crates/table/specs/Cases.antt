@@ -64,7 +64,8 @@ unfolding readTable readFile headerReply records
 sixty-four = (refl, refl)
 
 -- two faults in one header: fewer than 6 bytes come before the version, that before the length, that before the limits
-header-order : (readTable (0x02 ∷ 0x00 ∷ 0x09 ∷ []) ≡ Refused 1 0) × (readTable (0x02 ∷ 0x00 ∷ 0x07 ∷ 0x41 ∷ 0x00 ∷ 0x00 ∷ []) ≡ Refused 2 0)
+header-order : (readTable (0x02 ∷ 0x00 ∷ 0x09 ∷ []) ≡ Refused 1 0)
+    × (readTable (0x02 ∷ 0x00 ∷ 0x07 ∷ 0x41 ∷ 0x00 ∷ 0x00 ∷ []) ≡ Refused 2 0)
     × (readTable (0x01 ∷ 0x00 ∷ 0x07 ∷ 0x41 ∷ 0x00 ∷ 0x00 ∷ []) ≡ Refused 3 0)
     × (readTable (0x01 ∷ 0x00 ∷ 0x07 ∷ 0x41 ∷ 0x00 ∷ 0x00 ∷ 0x09 ∷ []) ≡ Refused 4 0)
 unfolding readTable readFile headerReply
