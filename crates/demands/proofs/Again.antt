@@ -1,6 +1,6 @@
 -- A result that is written again into the same buffer changes nothing: it asks for the same room, and stands there already.
 use Prim.Native.Nat.{ℕ}
-use mathlib.Core.Path.{_≡_, refl, sym, ap, ap₂, _∙_}
+use mathlib.Core.Path.{_≡_, ap, ap₂, _∙_}
 use mathlib.Core.List.{List, _++_}
 use lib.ListN.{length, drop}
 use lib.Seq.{drop-append-seam}

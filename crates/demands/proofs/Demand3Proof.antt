@@ -18,7 +18,7 @@ use mathlib.Core.Path.{_≡_, refl, sym, ap, _∙_, subst, subst⁻¹}
 use mathlib.Core.Logic.{_↔_}
 use mathlib.Core.Bool.{Bool, true, false, cond}
 use mathlib.Core.List.{List}
-use lib.ListN.{length, getD, List·getD-eq-default}
+use lib.ListN.{length, List·getD-eq-default}
 use lib.Dec.{eqb, leb}
 use borrow.Author.Tests.{eq-eqb, le-leb}
 use Rattle.expr.specs.Lists.{All}
@@ -28,7 +28,7 @@ use Rattle.expr.specs.Eval.{envOf}
 use Rattle.file.specs.Outcome.{Assume, verdict, placeOf}
 use Rattle.file.specs.File.{headerInputs, Accepted}
 use Rattle.table.specs.declared.Answer as Ran
-use Rattle.table.specs.Table.{Instr, readTable}
+use Rattle.table.specs.Table.{Instr}
 use Rattle.table.specs.TableLaws.{IsTable, table-ok, table-inputs}
 use Rattle.table.specs.Run.{run}
 use Rattle.table.specs.Answer as Running

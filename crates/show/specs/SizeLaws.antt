@@ -15,7 +15,7 @@ use Rattle.expr.specs.Token.{Token, Const, Symbol, Un, Bin, Ite, tokenBytes, ex
 use Rattle.file.specs.Outcome.{Kind, Assume, Assert, Bound}
 use Rattle.file.specs.File.{Input, Accepted, Refused, recordBytes, recordsBytes}
 use Rattle.table.specs.Table.{Instr, readTable}
-use Rattle.table.specs.TableLaws.{IsTable, table-ok}
+use Rattle.table.specs.TableLaws.{table-ok}
 use Rattle.trace.specs.Trace.{Stmt, Assign, Test, stmtBytes, encodeTrace}
 use Rattle.unwind.specs.Unwind.{unwind}
 use Rattle.slice.specs.Slice.{slice}
@@ -24,7 +24,7 @@ use Rattle.write.specs.Ascii.{ascii}
 use Rattle.write.specs.Decimal.{decimal}
 use Rattle.write.specs.DecimalLaws.{ten-digits, two-digits}
 use Rattle.show.specs.Text.{unaryName, binaryName, tokenText, exprText, kindName, stmtLine, stmtLines}
-use Rattle.write.specs.Decimal.{decimalUpTo, decimal}
+use Rattle.write.specs.Decimal.{decimal}
 use Rattle.show.specs.Text.{firstLine, sliceText, refusalText, printed}
 use Rattle.show.specs.TextLaws.{prints-refusal, prints-nine, prints-slice}
 

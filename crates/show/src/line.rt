@@ -5,7 +5,7 @@ use trace::read;
 ghost use mathlib.Core.Path.{_≡_};
 ghost use mathlib.Core.Bool.{true};
 ghost use Prim.Native.Nat.{_+_, _*_, _^_, _≤_, _<_};
-ghost use lib.ListN.{length, drop};
+ghost use lib.ListN.{drop};
 ghost use Rattle.expr.specs.Number.{numberOf};
 ghost use Rattle.file.specs.File.{headerCount};
 ghost use Rattle.file.specs.Shown.{isGood, isAccepted, listed};

@@ -16,7 +16,7 @@ use lib.Dec.{leb}
 use Rattle.expr.specs.Lists.{All}
 use Rattle.expr.specs.Number.{Byte, numberOf, bytesOf}
 use Rattle.expr.specs.NumberLaws.{number-written}
-use Rattle.file.specs.File.{Input, Accepted, header, recordBytes, recordsBytes, encode}
+use Rattle.file.specs.File.{Accepted, header, recordBytes, recordsBytes, encode}
 use Rattle.file.specs.FileLaws.{file-is}
 use Rattle.file.specs.ReadingLaws.{short}
 use Rattle.trace.specs.Trace.{Stmt, Assign, Test, stmts, readTrace, stmtBytes, encodeTrace, readsTrace}

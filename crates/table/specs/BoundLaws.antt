@@ -2,7 +2,7 @@
 --
 -- Step for step the two runs are one, until under the greater bound a back jump is taken where K have been taken already; and a run that
 -- takes it has more than K at its end.
-use Prim.Native.Nat.{ℕ, zero, suc, _+_, _*_, _≤_}
+use Prim.Native.Nat.{ℕ, zero, suc, _*_, _≤_}
 use native.Mathlib.Omega.{arith}
 use native.Mathlib.Nat.{mul-le-mul-right}
 use mathlib.Core.Path.{_≡_, refl, sym, ap, _∙_, subst}

@@ -7,7 +7,7 @@ use Rattle.expr.specs.Word.{unary, binary}
 use Rattle.expr.specs.Token.{operator, readToken}
 use Rattle.expr.specs.Expr.{fits, parseFrom}
 use Rattle.expr.specs.Eval.{value}
-use Rattle.file.specs.File.{headerReply, frame, recordOf, records, readFile, Refused}
+use Rattle.file.specs.File.{headerReply, frame, recordOf, records, readFile}
 use Rattle.trace.specs.declared.Answer.{Answer}
 use Rattle.trace.specs.Trace.{stmt, readTrace}
 use Rattle.trace.specs.Judge.{judge}

@@ -8,7 +8,7 @@ use mathlib.Core.Bool.{Bool, true, false, cond}
 use mathlib.Core.List.{List, [], _∷_, _++_}
 use lib.ListN.{length, set, length-append}
 use lib.Dec.{eqb, ltb}
-use borrow.Author.Tests.{ltb-true, ltb-false, lt-ltb, eq-eqb, ne-eqb}
+use borrow.Author.Tests.{ltb-true, ltb-false, eq-eqb, ne-eqb}
 use Rattle.write.specs.Splice.{splice, Wrote}
 use Rattle.write.specs.SpliceLaws.{splice-nil, length-splice, splice-behind}
 use Rattle.write.specs.Decimal.{decimalUpTo, decimal}
