@@ -25,6 +25,9 @@ use Rattle.slice.specs.Answer.{Sliced, sliceAnswer}
 use Rattle.demands.specs.Valuation.{Handed, Words, Bytes, inputIn, ranWith, judgedWith}
 use Rattle.demands.specs.Demand3.{RunUnsafeAt, UnsafeAt, RunOneVerdict, OneVerdict, AgreeOn, OneAnswer, Demand3}
 use Rattle.demands.proofs.Demand3Proof.{demand3}
+use Rattle.file.specs.File.{headSize, headerInputs, headerCount, inputsLimit, inputRoom, header}
+use Rattle.table.specs.Table.{isTable}
+use Rattle.trace.specs.Trace.{isTrace, traceVersion}
 
 -- ---- trace and slice, through the run
 
@@ -57,6 +60,7 @@ small-unsafe = (small-demand .alike Words 156 small-sliced) .run-slice (0 ∷ []
 
 -- and for no x is judging it refused
 pub small-accepted : (x : ℕ) → (judgedWith Words ((sliceAnswer smallTrace 156) .bytes) (x ∷ [])) .reply ≡ 0
+unfolding headerInputs
 small-accepted x = (small-demand .alike Words 156 small-sliced) .none-refused (x ∷ []) refl .2
 
 -- ---- of two inputs, assert s0: the slice reads the first alone
@@ -73,13 +77,13 @@ first-bytes =
     (every-below 11 (λ i. ltb (getD firstAsserted i 0) 256) refl i h))
 
 first-written : (traceAnswer firstAsserted 0 100) .reply ≡ 0
-unfolding traceAnswer readTable readFile headerReply records recordOf frame instr parseFrom readToken operator fits unwind places encode
+unfolding traceAnswer traceVersion readTable isTable readFile headerReply headSize headerInputs headerCount inputsLimit inputRoom records
+    recordOf frame instr parseFrom readToken operator fits unwind places encode header
 first-written = refl
 
 first-sliced : ((sliceAnswer firstTrace 100) .reply ≡ 0) × ((sliceAnswer firstTrace 100) .mask ≡ 1)
-unfolding traceAnswer readTable readFile headerReply records recordOf frame instr parseFrom readToken operator fits unwind places encode
-    sliceAnswer readTrace stmt
-    slice
+unfolding traceAnswer traceVersion readTable isTable readFile headerReply headSize headerInputs headerCount inputsLimit inputRoom records
+    recordOf frame instr parseFrom readToken operator fits unwind places encode header sliceAnswer readTrace isTrace stmt slice
 first-sliced = (refl, refl)
 
 -- s0 is 5, and s1 is s
@@ -108,6 +112,7 @@ pub one-verdict-elsewhere : (h : Handed)
     × OneVerdict (judgedWith h firstTrace (five-and h 6)) (judgedWith h firstTrace (five-and h 7))
     × OneVerdict (judgedWith h ((sliceAnswer firstTrace 100) .bytes) (five-and h 6))
     (judgedWith h ((sliceAnswer firstTrace 100) .bytes) (five-and h 7))
+unfolding headerInputs
 one-verdict-elsewhere h =
     ((demand3 firstAsserted 0 100 first-bytes first-written) .alike h 100 (first-sliced .0)) .read-decides (five-and h 6) (five-and h 7)
     (subst (λ m. AgreeOn h 2 m (five-and h 6) (five-and h 7)) (sym (first-sliced .1)) (agree-elsewhere h))

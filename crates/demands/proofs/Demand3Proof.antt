@@ -26,7 +26,7 @@ use Rattle.expr.specs.Number.{Byte}
 use Rattle.expr.specs.Word.{test}
 use Rattle.expr.specs.Eval.{envOf}
 use Rattle.file.specs.Outcome.{Assume, verdict, placeOf}
-use Rattle.file.specs.File.{headerInputs, Accepted}
+use Rattle.file.specs.File.{Head, headerInputs, Accepted}
 use Rattle.table.specs.declared.Answer as Ran
 use Rattle.table.specs.Table.{Instr}
 use Rattle.table.specs.TableLaws.{IsTable, table-ok, table-inputs}
@@ -34,7 +34,7 @@ use Rattle.table.specs.Run.{run}
 use Rattle.table.specs.Answer as Running
 use Rattle.table.specs.Answer.{runAnswer}
 use Rattle.trace.specs.declared.Answer as Judged
-use Rattle.trace.specs.Trace.{Stmt, readTrace, encodeTrace, readsTrace}
+use Rattle.trace.specs.Trace.{Stmt, readTrace, traceHead, encodeTrace, readsTrace}
 use Rattle.trace.specs.TraceLaws.{trace-inputs}
 use Rattle.trace.specs.Judge.{judge}
 use Rattle.trace.specs.Answer as Judging
@@ -43,6 +43,7 @@ use Rattle.unwind.specs.Unwind.{unwind}
 use Rattle.unwind.specs.UnwindLaws.{unwind-ok}
 use Rattle.unwind.specs.AgreeLaws.{unwind-verdict}
 use Rattle.unwind.specs.Answer.{traceAnswer}
+use Rattle.trace.specs.EncodeLaws.{room-written, trace-known}
 use Rattle.unwind.specs.AnswerLaws.{IsTrace, trace-written, trace-read}
 use Rattle.slice.specs.Slice.{slice}
 use Rattle.slice.specs.Mask.{inputMask}
@@ -56,29 +57,34 @@ use Rattle.demands.specs.Demand3.{RunUnsafeAt, UnsafeAt, RunOneVerdict, 
 
 -- ---- what was written is read
 
-module _ (b : List ℕ) (K S : ℕ) (is : List Instr) (t : List ℕ) (o : All Byte b) (w : IsTrace b K S is t) where
+module _ (b : List ℕ) (K : ℕ) (head : Head) (is : List Instr) (t : List ℕ) (o : All Byte b) (w : IsTrace b K head is t) where
+  abbrev S : ℕ
+  S = head .inputs
+
   -- the trace's statements
   abbrev ts : List Stmt
   ts = unwind Assume S is K
 
   table : IsTable b S is
-  table = table-ok b S is o (w .accepted)
+  table = table-ok b head is o (w .accepted)
 
   inputs : headerInputs b ≡ S
-  inputs = table-inputs b S is (w .accepted)
+  inputs = table-inputs b head is (w .accepted)
 
-  read-back : readTrace t ≡ Accepted S ts
-  read-back = trace-read b K S is t o w
+  read-back : readTrace t ≡ Accepted (traceHead S) ts
+  read-back = trace-read b K head is t o w
 
-  slice-back : readTrace (encodeTrace S (slice ts)) ≡ Accepted S (slice ts)
-  slice-back = slice-read S ts (table .inputs) (w .count) (w .total) (unwind-ok S is K (table .ok) (table .inputs) (w .count))
+  slice-back : readTrace (encodeTrace (traceHead S) (slice ts)) ≡ Accepted (traceHead S) (slice ts)
+  slice-back =
+      slice-read (traceHead S) ts (trace-known S) (omega (arith, table .inputs, room-written)) (w .count) (w .total)
+      (unwind-ok S is K (table .ok) (table .inputs) (w .count))
 
-  slice-answer : (room : ℕ) → (sliceAnswer t room) .reply ≡ 0 → sliceAnswer t room ≡ Slicing.sliceOf S (slice ts)
+  slice-answer : (room : ℕ) → (sliceAnswer t room) .reply ≡ 0 → sliceAnswer t room ≡ Slicing.sliceOf (traceHead S) (slice ts)
   unfolding sliceAnswer
-  slice-answer room h = go (leb (length (encodeTrace S (slice ts))) room) (ap (Slicing.answered room) read-back)
+  slice-answer room h = go (leb (length (encodeTrace (traceHead S) (slice ts))) room) (ap (Slicing.answered room) read-back)
     where
-      go : (x : Bool) → sliceAnswer t room ≡ cond x (Slicing.sliceOf S (slice ts)) (Slicing.refusal 10 0)
-          → sliceAnswer t room ≡ Slicing.sliceOf S (slice ts)
+      go : (x : Bool) → sliceAnswer t room ≡ cond x (Slicing.sliceOf (traceHead S) (slice ts)) (Slicing.refusal 10 0)
+          → sliceAnswer t room ≡ Slicing.sliceOf (traceHead S) (slice ts)
       go true q = q
       go false q = absurd (let z : _≡_ {A = ℕ} 0 10 = sym h ∙ ap (λ q. q .reply) q in omega arith)
 
@@ -96,7 +102,7 @@ module _ (b : List ℕ) (K S : ℕ) (is : List Instr) (t : List ℕ) (o : All By
       (le-leb K 255 (w .bound))
 
   -- of any trace that is read with the table's inputs and has the run's verdict and place
-  judged-like-run : (s : List ℕ) (us : List Stmt) → readTrace s ≡ Accepted S us → (v : List ℕ)
+  judged-like-run : (s : List ℕ) (us : List Stmt) → readTrace s ≡ Accepted (traceHead S) us → (v : List ℕ)
       → (verdict (judge us (envOf v)) ≡ verdict ((run is K v) .outcome)) × (placeOf (judge us (envOf v)) ≡ placeOf ((run is K v) .outcome))
       → judgeAnswer s v ≡ judged (runAnswer b K v)
   unfolding judgeAnswer
@@ -110,11 +116,11 @@ module _ (b : List ℕ) (K S : ℕ) (is : List Instr) (t : List ℕ) (o : All By
   judged-trace : (v : List ℕ) → judgeAnswer t v ≡ judged (runAnswer b K v)
   judged-trace v = judged-like-run t ts read-back v (unwind-verdict S is K v (table .ok))
 
-  judged-slice : (v : List ℕ) → judgeAnswer (encodeTrace S (slice ts)) v ≡ judged (runAnswer b K v)
+  judged-slice : (v : List ℕ) → judgeAnswer (encodeTrace (traceHead S) (slice ts)) v ≡ judged (runAnswer b K v)
   judged-slice v =
       let unwound = unwind-verdict S is K v (table .ok) in
       let sliced = slice-verdict ts (envOf v) (envOf v) (λ x r. refl) in
-      judged-like-run (encodeTrace S (slice ts)) (slice ts) slice-back v (sym (sliced .0) ∙ unwound .0, sym (sliced .1) ∙ unwound .1)
+      judged-like-run (encodeTrace (traceHead S) (slice ts)) (slice ts) slice-back v (sym (sliced .0) ∙ unwound .0, sym (sliced .1) ∙ unwound .1)
 
   -- ---- what is not read cannot matter
 
@@ -153,18 +159,18 @@ module _ (b : List ℕ) (K S : ℕ) (is : List Instr) (t : List ℕ) (o : All By
   verdict-same v u j k e f h =
       (ap (λ a. a .verdict) e ∙ h .0 ∙ sym (ap (λ a. a .verdict) f), ap (λ a. a .place) e ∙ h .1 ∙ sym (ap (λ a. a .place) f))
 
-  words-answer : OneAnswer Words b K t (Slicing.sliceOf S (slice ts))
+  words-answer : OneAnswer Words b K t (Slicing.sliceOf (traceHead S) (slice ts))
   words-answer = record {
     none-refused = λ v h.
         let done = ap (λ a. a .reply) (run-done v (h ∙ inputs)) in
         (done, ap (λ a. a .reply) (judged-trace v) ∙ done, ap (λ a. a .reply) (judged-slice v) ∙ done);
     run-trace = λ v p. unsafe-same v (judgeAnswer t v) (judged-trace v) p;
-    run-slice = λ v p. unsafe-same v (judgeAnswer (encodeTrace S (slice ts)) v) (judged-slice v) p;
+    run-slice = λ v p. unsafe-same v (judgeAnswer (encodeTrace (traceHead S) (slice ts)) v) (judged-slice v) p;
     read-decides = λ v u a.
         let one = run-decided v u (subst (λ n. AgreeOn Words n (inputMask S (slice ts)) v u) inputs a) in (
           one,
           verdict-same v u (judgeAnswer t v) (judgeAnswer t u) (judged-trace v) (judged-trace u) one,
-          verdict-same v u (judgeAnswer (encodeTrace S (slice ts)) v) (judgeAnswer (encodeTrace S (slice ts)) u) (judged-slice v)
+          verdict-same v u (judgeAnswer (encodeTrace (traceHead S) (slice ts)) v) (judgeAnswer (encodeTrace (traceHead S) (slice ts)) u) (judged-slice v)
               (judged-slice u) one,
         );
   }
@@ -176,15 +182,15 @@ module _ (b : List ℕ) (K S : ℕ) (is : List Instr) (t : List ℕ) (o : All By
     ran v = ran-words h b K v ∙ ap (λ n. runAnswer b K (wordsIn h n v)) inputs
 
     -- judging a trace that is read with the table's inputs
-    judged-as : (s : List ℕ) (us : List Stmt) → readTrace s ≡ Accepted S us → (v : List ℕ)
+    judged-as : (s : List ℕ) (us : List Stmt) → readTrace s ≡ Accepted (traceHead S) us → (v : List ℕ)
         → judgedWith h s v ≡ judgeAnswer s (wordsIn h S v)
-    judged-as s us a v = judged-words h s v ∙ ap (λ n. judgeAnswer s (wordsIn h n v)) (trace-inputs s S us a)
+    judged-as s us a v = judged-words h s v ∙ ap (λ n. judgeAnswer s (wordsIn h n v)) (trace-inputs s (traceHead S) us a)
 
     whole : (v : List ℕ) → judgedWith h t v ≡ judgeAnswer t (wordsIn h S v)
     whole v = judged-as t ts read-back v
 
-    cut : (v : List ℕ) → judgedWith h (encodeTrace S (slice ts)) v ≡ judgeAnswer (encodeTrace S (slice ts)) (wordsIn h S v)
-    cut v = judged-as (encodeTrace S (slice ts)) (slice ts) slice-back v
+    cut : (v : List ℕ) → judgedWith h (encodeTrace (traceHead S) (slice ts)) v ≡ judgeAnswer (encodeTrace (traceHead S) (slice ts)) (wordsIn h S v)
+    cut v = judged-as (encodeTrace (traceHead S) (slice ts)) (slice ts) slice-back v
 
     -- what agrees as it is handed agrees in words
     agree-words : (mask : ℕ) (v u : List ℕ) → AgreeOn h (headerInputs b) mask v u
@@ -203,7 +209,7 @@ module _ (b : List ℕ) (K S : ℕ) (is : List Instr) (t : List ℕ) (o : All By
         right : (x : List ℕ) → length x ≡ lengthFor h (headerInputs b) → length x ≡ lengthFor h S
         right x e = e ∙ ap (lengthFor h) inputs
 
-    one-answer : OneAnswer h b K t (Slicing.sliceOf S (slice ts))
+    one-answer : OneAnswer h b K t (Slicing.sliceOf (traceHead S) (slice ts))
     one-answer = record {
       none-refused = λ v e.
           let n = words-answer .none-refused (wordsIn h S v) (words-length h S v .1 (e ∙ ap (lengthFor h) inputs) ∙ sym inputs) in
@@ -213,7 +219,7 @@ module _ (b : List ℕ) (K S : ℕ) (is : List Instr) (t : List ℕ) (o : All By
           (subst⁻¹ (λ a. RunUnsafeAt p (runAnswer b K (wordsIn h S v)) ↔ UnsafeAt p a) (whole v)
           (words-answer .run-trace (wordsIn h S v) p));
       run-slice = λ v p.
-          subst⁻¹ (λ a. RunUnsafeAt p a ↔ UnsafeAt p (judgedWith h (encodeTrace S (slice ts)) v)) (ran v)
+          subst⁻¹ (λ a. RunUnsafeAt p a ↔ UnsafeAt p (judgedWith h (encodeTrace (traceHead S) (slice ts)) v)) (ran v)
           (subst⁻¹ (λ a. RunUnsafeAt p (runAnswer b K (wordsIn h S v)) ↔ UnsafeAt p a) (cut v) (words-answer .run-slice (wordsIn h S v) p));
       read-decides = λ v u a.
           let d = words-answer .read-decides (wordsIn h S v) (wordsIn h S u) (agree-words (inputMask S (slice ts)) v u a) in (
@@ -237,7 +243,8 @@ module _ (b : List ℕ) (K S : ℕ) (is : List Instr) (t : List ℕ) (o : All By
 
   written-demand : Demand3 b K t
   written-demand = record {
-    sliced = λ room h. ap (λ q. q .reply) (slice-done t S ts room read-back (omega (arith, slice-fits S ts, ap length (w .bytes))));
+    sliced = λ room h. ap (λ q. q .reply) (slice-done t (traceHead S) ts room read-back
+        (omega (arith, slice-fits (traceHead S) ts, ap length (w .bytes))));
     alike = λ h room e. subst (OneAnswer h b K t) (sym (slice-answer room e)) (one-answer h);
   }
 

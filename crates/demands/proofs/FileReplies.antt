@@ -5,19 +5,20 @@ use native.Mathlib.Decide.{decLt}
 use mathlib.Core.Path.{_≡_, refl, sym, ap, _∙_, subst}
 use mathlib.Core.Bool.{Bool, true, false, cond, _&&_}
 use mathlib.Core.List.{List}
-use lib.ListN.{length, drop, getD, length-drop}
+use lib.ListN.{length, drop, length-drop}
 use lib.Dec.{eqb, leb}
 use borrow.Author.Tests.{eqb-true, eqb-false, leb-true, leb-false, le-leb}
 use Rattle.expr.specs.declared.File.{File}
 use Rattle.expr.specs.declared.File.the-variants.{Table, Trace}
 use Rattle.expr.specs.Lists.{All, and-both, both-and}
-use Rattle.expr.specs.Number.{Byte, numberOf}
-use Rattle.file.specs.File.{headerInputs, headerCount, headerReply, Body, Good, Records, Read, Stop, Input, Accepted, Refused, recordOf}
+use Rattle.expr.specs.Number.{Byte}
+use Rattle.file.specs.File.{Head, inputsLimit, headerVersion, headerSize, headerTotal, headerInputs, headerCount, headOf, headerReply, Body}
+use Rattle.file.specs.File.{Good, Records, Read, Stop, Input, Accepted, Refused, recordOf}
 use Rattle.file.specs.File.{before, records, finish, readFile}
 use Rattle.file.specs.FileLaws.{records-good, records-bad, records-end, records-spare, header-is, file-refused, file-read}
 use Rattle.table.specs.Table.{instr, readTable}
 use Rattle.trace.specs.Trace.{atFirst, see, stmt, readTrace}
-use Rattle.demands.specs.Replies.{recordAt, version, limit, Call, fileOf, bytesOf, Framing, Ruling, Wording, Row, Short, Version}
+use Rattle.demands.specs.Replies.{recordAt, known, limit, Call, fileOf, bytesOf, Framing, Ruling, Wording, Row, Short, Version}
 use Rattle.demands.specs.Replies.{Total, Limits, Frame, Rule, Expression, Spare, number, offset, When, rank, FirstRow}
 use Rattle.demands.proofs.RowOrder.{Clear, clear-past}
 use Rattle.demands.proofs.RecordReplies.{Decided, is-good, is-framing, is-ruling, is-wording, framing-inside, table-decided, Knows}
@@ -29,7 +30,7 @@ RefusedBy c reply at = (row : Row) × (number row ≡ reply) × (offset (bytesOf
 
 -- a call's file is refused by the first row, or none of the rows 1 to 7 holds
 abbrev pub FileReply : {A : Type 0} → Call → Input A → Type 0
-FileReply c (Accepted S xs) = Clear c (5 + 3 * headerCount (bytesOf c))
+FileReply c (Accepted head xs) = Clear c (5 + 3 * headerCount (bytesOf c))
 FileReply c (Refused reply at) = RefusedBy c reply at
 
 -- ---- the header
@@ -48,44 +49,49 @@ module _ (c : Call) where
   abbrev S : ℕ
   S = headerInputs (bytesOf c)
 
+  abbrev most : ℕ
+  most = inputsLimit (headerVersion (bytesOf c))
+
   first : (row : Row) → Clear c (rank n row) → When c row → FirstRow c row
   first row clear holds = record { holds = holds; none-before = clear }
 
-  header-reply : HeaderReply c (headerReply (version (fileOf c)) (limit (fileOf c)) s)
+  header-reply : HeaderReply c (headerReply (known (fileOf c)) (limit (fileOf c)) s)
   unfolding headerReply
   header-reply =
-      go (leb 6 (length s)) refl (eqb (getD s 0 0) (version (fileOf c))) refl (eqb (numberOf 2 (drop 1 s)) (length s)) refl
-      (leb S 64 && leb n (limit (fileOf c))) refl
+      go (leb (headerSize s) (length s)) refl (known (fileOf c) (headerVersion s)) refl (eqb (headerTotal s) (length s)) refl
+      (leb S most && leb n (limit (fileOf c))) refl
     where
-      no-short : leb 6 (length s) ≡ true → Clear c 1
-      no-short p = clear-past c Short 1 tt (omega arith) (λ other l w. omega arith) (λ h. omega (arith, leb-true 6 (length s) p))
+      no-short : leb (headerSize s) (length s) ≡ true → Clear c 1
+      no-short p = clear-past c Short 1 tt (omega arith) (λ other l w. omega arith) (λ h. omega (arith, leb-true (headerSize s) (length s) p))
 
-      no-version : Clear c 1 → eqb (getD s 0 0) (version (fileOf c)) ≡ true → Clear c 2
-      no-version clear p = clear-past c Version 2 tt (omega arith) clear (λ h. h (eqb-true (getD s 0 0) (version (fileOf c)) p))
+      no-version : Clear c 1 → known (fileOf c) (headerVersion s) ≡ true → Clear c 2
+      no-version clear p =
+          clear-past c Version 2 tt (omega arith) clear (λ h. let z : _≡_ {A = ℕ} 0 1 = (let q = sym p ∙ h in cc) in omega arith)
 
-      no-total : Clear c 2 → eqb (numberOf 2 (drop 1 s)) (length s) ≡ true → Clear c 3
-      no-total clear p = clear-past c Total 3 tt (omega arith) clear (λ h. h (eqb-true (numberOf 2 (drop 1 s)) (length s) p))
+      no-total : Clear c 2 → eqb (headerTotal s) (length s) ≡ true → Clear c 3
+      no-total clear p = clear-past c Total 3 tt (omega arith) clear (λ h. h (eqb-true (headerTotal s) (length s) p))
 
-      within : (leb S 64 && leb n (limit (fileOf c))) ≡ true → (S ≤ 64) × (n ≤ limit (fileOf c))
-      within p = let k = and-both (leb S 64) (leb n (limit (fileOf c))) p in (leb-true S 64 (k .0), leb-true n (limit (fileOf c)) (k .1))
+      within : (leb S most && leb n (limit (fileOf c))) ≡ true → (S ≤ most) × (n ≤ limit (fileOf c))
+      within p =
+          let k = and-both (leb S most) (leb n (limit (fileOf c))) p in (leb-true S most (k .0), leb-true n (limit (fileOf c)) (k .1))
 
-      no-limits : Clear c 3 → (leb S 64 && leb n (limit (fileOf c))) ≡ true → Clear c 4
+      no-limits : Clear c 3 → (leb S most && leb n (limit (fileOf c))) ≡ true → Clear c 4
       no-limits clear p = clear-past c Limits 4 tt (omega arith) clear (λ h. h (within p))
 
-      outside : (leb S 64 && leb n (limit (fileOf c))) ≡ false → (S ≤ 64) × (n ≤ limit (fileOf c)) → ⊥
+      outside : (leb S most && leb n (limit (fileOf c))) ≡ false → (S ≤ most) × (n ≤ limit (fileOf c)) → ⊥
       outside p h =
-          let q = sym p ∙ both-and (leb S 64) (leb n (limit (fileOf c))) (le-leb S 64 (h .0)) (le-leb n (limit (fileOf c)) (h .1)) in
+          let q = sym p ∙ both-and (leb S most) (leb n (limit (fileOf c))) (le-leb S most (h .0)) (le-leb n (limit (fileOf c)) (h .1)) in
           let z : _≡_ {A = ℕ} 0 1 = cc in omega arith
 
-      go : (x : Bool) → leb 6 (length s) ≡ x → (y : Bool) → eqb (getD s 0 0) (version (fileOf c)) ≡ y → (z : Bool)
-          → eqb (numberOf 2 (drop 1 s)) (length s) ≡ z
-          → (w : Bool) → (leb S 64 && leb n (limit (fileOf c))) ≡ w → HeaderReply c (cond x (cond y (cond z (cond w 0 4) 3) 2) 1)
+      go : (x : Bool) → leb (headerSize s) (length s) ≡ x → (y : Bool) → known (fileOf c) (headerVersion s) ≡ y → (z : Bool)
+          → eqb (headerTotal s) (length s) ≡ z
+          → (w : Bool) → (leb S most && leb n (limit (fileOf c))) ≡ w → HeaderReply c (cond x (cond y (cond z (cond w 0 4) 3) 2) 1)
       go false p y q z r w t =
-          header-refused Short (first Short (λ other l w. omega arith) (leb-false 6 (length s) p)) refl (λ e. omega arith)
+          header-refused Short (first Short (λ other l w. omega arith) (leb-false (headerSize s) (length s) p)) refl (λ e. omega arith)
       go true p false q z r w t =
-          header-refused Version (first Version (no-short p) (eqb-false (getD s 0 0) (version (fileOf c)) q)) refl (λ e. omega arith)
+          header-refused Version (first Version (no-short p) q) refl (λ e. omega arith)
       go true p true q false r w t =
-          header-refused Total (first Total (no-version (no-short p) q) (eqb-false (numberOf 2 (drop 1 s)) (length s) r)) refl
+          header-refused Total (first Total (no-version (no-short p) q) (eqb-false (headerTotal s) (length s) r)) refl
           (λ e. omega arith)
       go true p true q true r false t =
           header-refused Limits (first Limits (no-total (no-version (no-short p) q) r) (outside t)) refl (λ e. omega arith)
@@ -103,7 +109,7 @@ module _ {A St : Type 0} (c : Call) (one : St → List ℕ → Body A) (next : S
 
   -- the reply to the records that are left
   abbrev Reply : Records A → Type 0
-  Reply p = FileReply c (finish (length (bytesOf c)) (headerInputs (bytesOf c)) p)
+  Reply p = FileReply c (finish (length (bytesOf c)) (headOf (bytesOf c)) p)
 
   reply-before : (a : A) (p : Records A) → Reply p → Reply (before a p)
   reply-before a (Read xs) h = h
@@ -167,42 +173,42 @@ module _ {A St : Type 0} (c : Call) (one : St → List ℕ → Body A) (next : S
 -- ---- the file
 
 -- any file: what its reader knows after k records is `Inv k`, and each record is read as its rows decide
-module _ {A St : Type 0} (c : Call) (F : File) (is : fileOf c ≡ F) (one : (S n : ℕ) → St → List ℕ → Body A) (next : St → A → St)
-    (start : (S : ℕ) → St)
-    (Inv : ℕ → St → Type 0) (started : Inv 0 (start (headerInputs (bytesOf c))))
+module _ {A St : Type 0} (c : Call) (F : File) (is : fileOf c ≡ F) (one : (head : Head) (n : ℕ) → St → List ℕ → Body A) (next : St → A → St)
+    (start : (head : Head) → St)
+    (Inv : ℕ → St → Type 0) (started : Inv 0 (start (headOf (bytesOf c))))
     (decided : (k : ℕ) (σ : St) → Inv k σ → Decided F (bytesOf c) k (recordAt (bytesOf c) k)
-    (recordOf (one (headerInputs (bytesOf c)) (headerCount (bytesOf c)) σ) (drop (recordAt (bytesOf c) k) (bytesOf c))))
+    (recordOf (one (headOf (bytesOf c)) (headerCount (bytesOf c)) σ) (drop (recordAt (bytesOf c) k) (bytesOf c))))
     (kept : (k : ℕ) (σ : St) → Inv k σ → (a : A)
-    → recordOf (one (headerInputs (bytesOf c)) (headerCount (bytesOf c)) σ) (drop (recordAt (bytesOf c) k) (bytesOf c)) ≡ Good a
+    → recordOf (one (headOf (bytesOf c)) (headerCount (bytesOf c)) σ) (drop (recordAt (bytesOf c) k) (bytesOf c)) ≡ Good a
     → Inv (suc k) (next σ a)) where
-  abbrev body : (S n : ℕ) → List ℕ → Records A
-  body S n bs = records (one S n) next n (start S) bs
+  abbrev body : (head : Head) (n : ℕ) → List ℕ → Records A
+  body head n bs = records (one head n) next n (start head) bs
 
-  file-reply : FileReply c (readFile (version F) (limit F) body (bytesOf c))
+  file-reply : FileReply c (readFile (known F) (limit F) body (bytesOf c))
   file-reply =
-      go (headerReply (version F) (limit F) (s c)) refl (subst (λ G. HeaderReply c (headerReply (version G) (limit G) (s c))) is
+      go (headerReply (known F) (limit F) (s c)) refl (subst (λ G. HeaderReply c (headerReply (known G) (limit G) (s c))) is
       (header-reply c))
     where
-      go : (r : ℕ) → headerReply (version F) (limit F) (s c) ≡ r → HeaderReply c r → FileReply c (readFile (version F) (limit F) body (s c))
+      go : (r : ℕ) → headerReply (known F) (limit F) (s c) ≡ r → HeaderReply c r → FileReply c (readFile (known F) (limit F) body (s c))
       go r e (header-refused row f o z) =
-          subst (FileReply c) (sym (file-refused (version F) (limit F) body (s c) (number row) e z)) (row, refl, o, f)
+          subst (FileReply c) (sym (file-refused (known F) (limit F) body (s c) (number row) e z)) (row, refl, o, f)
       go r e (header-passed clear) =
-          let reader = one (S c) (n c) in
-          subst (FileReply c) (sym (file-read (version F) (limit F) body (s c) e))
+          let reader = one (headOf (s c)) (n c) in
+          subst (FileReply c) (sym (file-read (known F) (limit F) body (s c) e))
           (records-reply c reader next Inv
           (λ k σ i. subst (λ G. Decided G (s c) k (recordAt (s c) k) (recordOf (reader σ) (drop (recordAt (s c) k) (s c)))) (sym is)
           (decided k σ i))
-          kept (n c) 0 (start (S c)) started (omega arith) (header-is (version F) (limit F) (s c) e .long) clear)
+          kept (n c) 0 (start (headOf (s c))) started (omega arith) (header-is (known F) (limit F) (s c) e .long) clear)
 
 pub table-reply : (c : Call) → fileOf c ≡ Table → All Byte (bytesOf c) → FileReply c (readTable (bytesOf c))
 unfolding readTable
 table-reply c is o =
-    file-reply {St = Unit {0}} c Table is (λ S n u. instr S n) (λ u a. u) (λ S. tt) (λ k u. Unit {0}) tt
+    file-reply {St = Unit {0}} c Table is (λ head n u. instr (head .inputs) n) (λ u a. u) (λ head. tt) (λ k u. Unit {0}) tt
     (λ k u i. table-decided (bytesOf c) o k (recordAt (bytesOf c) k)) (λ k u i a g. tt)
 
 pub trace-reply : (c : Call) → fileOf c ≡ Trace → All Byte (bytesOf c) → FileReply c (readTrace (bytesOf c))
 unfolding readTrace
 trace-reply c is o =
-    file-reply c Trace is (λ S n. stmt (S + 4096)) see atFirst (Knows (bytesOf c)) (knows-start (bytesOf c))
-    (λ k σ w. trace-decided (bytesOf c) o k (recordAt (bytesOf c) k) σ w)
+    file-reply c Trace is (λ head n. stmt (head .inputs + 4096)) see (λ head. atFirst (head .inputs)) (Knows (bytesOf c))
+    (knows-start (bytesOf c)) (λ k σ w. trace-decided (bytesOf c) o k (recordAt (bytesOf c) k) σ w)
     (λ k σ w a g. knows-next (bytesOf c) k σ w (headerInputs (bytesOf c) + 4096) a g)

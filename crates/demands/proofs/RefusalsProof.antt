@@ -8,14 +8,14 @@ use lib.ListN.{length}
 use lib.Dec.{eqb, leb}
 use Rattle.expr.specs.Eval.{envOf}
 use Rattle.file.specs.Outcome.{Assume, Assert, Bound, Outcome, Ended, Failed, Lost, verdict, placeOf}
-use Rattle.file.specs.File.{headerInputs, Input, Accepted, Refused}
+use Rattle.file.specs.File.{Head, headerInputs, Input, Accepted, Refused}
 use Rattle.table.specs.declared.Answer as Ran
 use Rattle.table.specs.Table.{Instr, readTable}
 use Rattle.table.specs.Run.{run}
 use Rattle.table.specs.Answer.{runAnswer}
 use Rattle.table.specs.Answer as Running
 use Rattle.trace.specs.declared.Answer as Judged
-use Rattle.trace.specs.Trace.{Stmt, readTrace, encodeTrace}
+use Rattle.trace.specs.Trace.{Stmt, readTrace, traceHead, encodeTrace}
 use Rattle.trace.specs.Judge.{judge}
 use Rattle.trace.specs.Answer.{judgeAnswer}
 use Rattle.trace.specs.Answer as Judging
@@ -57,8 +57,8 @@ run-words-rest table K words = go (readTable table)
 
     go : (x : Input Instr) → RunRest (Running.answered K words x)
     go (Refused r o) = run-refusal r o
-    go (Accepted S is) =
-        chosen (leb K 255) (eqb (length words) S) (Running.answerOf (run is K words))
+    go (Accepted head is) =
+        chosen (leb K 255) (eqb (length words) (head .inputs)) (Running.answerOf (run is K words))
         (record { refused = λ h. absurd (h refl); safe = safe-place ((run is K words) .outcome) })
 
 pub run-rest : (h : Handed) (table : List ℕ) (K : ℕ) (valuation : List ℕ) → RunRest (ranWith h table K valuation)
@@ -79,8 +79,8 @@ judge-words-rest trace words = go (readTrace trace)
 
     go : (x : Input Stmt) → JudgeRest (Judging.answered words x)
     go (Refused r o) = judge-refusal r o
-    go (Accepted S ts) =
-        chosen (eqb (length words) S) (Judging.answerOf (judge ts (envOf words)))
+    go (Accepted head ts) =
+        chosen (eqb (length words) (head .inputs)) (Judging.answerOf (judge ts (envOf words)))
         (record { refused = λ h. absurd (h refl); safe = safe-place (judge ts (envOf words)) })
 
 pub judge-rest : (h : Handed) (trace valuation : List ℕ) → JudgeRest (judgedWith h trace valuation)
@@ -107,10 +107,11 @@ trace-empty table K room = go (readTable table)
 
     go : (x : Input Instr) → ((Unwinding.answered K room x) .reply ≡ 0 → ⊥) → (Unwinding.answered K room x) .bytes ≡ []
     go (Refused r o) h = refl
-    go (Accepted S is) h =
-        bounded (leb K 255) (Unwinding.traceOf room S (unwind Assume S is K))
-        (fitted (leb (length (unwind Assume S is K)) 4096 && leb (length (encodeTrace S (unwind Assume S is K))) 65535)
-        (leb (length (encodeTrace S (unwind Assume S is K))) room) (encodeTrace S (unwind Assume S is K))) h
+    go (Accepted head is) h =
+        let ts = unwind Assume (head .inputs) is K in
+        let bytes = encodeTrace (traceHead (head .inputs)) ts in
+        bounded (leb K 255) (Unwinding.traceOf room (head .inputs) ts)
+        (fitted (leb (length ts) 4096 && leb (length bytes) 65535) (leb (length bytes) room) bytes) h
 
 pub write-trace-rest : (table : List ℕ) (K : ℕ) (out out′ : List ℕ) (r : Written.Answer) → TraceWritten table K out out′ r
     → TraceRest out out′ r
@@ -135,14 +136,14 @@ slice-empty : (trace : List ℕ) (room : ℕ) → ((sliceAnswer trace room) .rep
 unfolding sliceAnswer
 slice-empty trace room = go (readTrace trace)
   where
-    roomy : (b : Bool) (S : ℕ) (kept : List Stmt) → ((cond b (Slicing.sliceOf S kept) (Slicing.refusal 10 0)) .reply ≡ 0 → ⊥)
-        → Nothing (cond b (Slicing.sliceOf S kept) (Slicing.refusal 10 0))
-    roomy true S kept h = absurd (h refl)
-    roomy false S kept h = (refl, refl, refl)
+    roomy : (b : Bool) (head : Head) (kept : List Stmt) → ((cond b (Slicing.sliceOf head kept) (Slicing.refusal 10 0)) .reply ≡ 0 → ⊥)
+        → Nothing (cond b (Slicing.sliceOf head kept) (Slicing.refusal 10 0))
+    roomy true head kept h = absurd (h refl)
+    roomy false head kept h = (refl, refl, refl)
 
     go : (x : Input Stmt) → ((Slicing.answered room x) .reply ≡ 0 → ⊥) → Nothing (Slicing.answered room x)
     go (Refused r o) h = (refl, refl, refl)
-    go (Accepted S ts) h = roomy (leb (length (encodeTrace S (slice ts))) room) S (slice ts) h
+    go (Accepted head ts) h = roomy (leb (length (encodeTrace head (slice ts))) room) head (slice ts) h
 
 pub slice-trace-rest : (trace out out′ : List ℕ) (r : Kept.Answer) → SliceWritten trace out out′ r → SliceRest out out′ r
 slice-trace-rest trace out out′ r w h = (

@@ -22,15 +22,15 @@ use borrow.Author.Tests.{eqb-true, eqb-false, leb-true, leb-false, le-leb}
 use Rattle.expr.specs.Lists.{All, and-both, both-and}
 use Rattle.expr.specs.Number.{Byte}
 use Rattle.file.specs.Outcome.{Assume, Outcome}
-use Rattle.file.specs.File.{headerInputs, headerCount, Input, Accepted, Refused}
+use Rattle.file.specs.File.{Head, headerInputs, headerCount, Input, Accepted, Refused}
 use Rattle.file.specs.Shown.{listed}
 use Rattle.table.specs.Table.{Instr, readTable}
 use Rattle.table.specs.TableLaws.{table-inputs}
 use Rattle.table.specs.Run.{Ran, run}
 use Rattle.table.specs.Answer as Running
 use Rattle.table.specs.Answer.{runAnswer}
-use Rattle.trace.specs.Trace.{Stmt, readTrace, encodeTrace}
-use Rattle.trace.specs.TraceLaws.{trace-inputs}
+use Rattle.trace.specs.Trace.{Stmt, readTrace, traceHead, encodeTrace}
+use Rattle.trace.specs.TraceLaws.{trace-head, trace-inputs}
 use Rattle.trace.specs.Judge.{judge}
 use Rattle.trace.specs.Answer as Judging
 use Rattle.trace.specs.Answer.{judgeAnswer}
@@ -136,8 +136,9 @@ module _ (h : Handed) (t : List ℕ) (K : ℕ) (v : List ℕ) where
   run-first : (i : Input Instr) → readTable t ≡ i → FileReply runs i
       → First runs ((Running.answered K runWords i) .reply) ((Running.answered K runWords i) .offset)
   run-first (Refused r at) q f = some-row f
-  run-first (Accepted S is) q clear =
-      run-tested S (table-inputs t S is q) clear (leb K 255) refl (eqb (length runWords) S) refl (run is K runWords)
+  run-first (Accepted head is) q clear =
+      run-tested (head .inputs) (table-inputs t head is q) clear (leb K 255) refl (eqb (length runWords) (head .inputs)) refl
+      (run is K runWords)
 
   run-words-demand1 : All Byte t → Demand1 runs ((runAnswer t K runWords) .reply) ((runAnswer t K runWords) .offset)
   unfolding runAnswer
@@ -178,8 +179,9 @@ module _ (h : Handed) (t v : List ℕ) where
   judge-first : (i : Input Stmt) → readTrace t ≡ i → FileReply judges i → First judges ((Judging.answered judgeWords i) .reply)
       ((Judging.answered judgeWords i) .offset)
   judge-first (Refused r at) q f = some-row f
-  judge-first (Accepted S ts) q clear =
-      judge-tested S (trace-inputs t S ts q) clear (eqb (length judgeWords) S) refl (judge ts (envOf judgeWords))
+  judge-first (Accepted head ts) q clear =
+      judge-tested (head .inputs) (trace-inputs t head ts q) clear (eqb (length judgeWords) (head .inputs)) refl
+      (judge ts (envOf judgeWords))
 
   judge-words-demand1 : All Byte t → Demand1 judges ((judgeAnswer t judgeWords) .reply) ((judgeAnswer t judgeWords) .offset)
   unfolding judgeAnswer
@@ -246,12 +248,14 @@ module _ (t : List ℕ) (K room : ℕ) where
   trace-first : (i : Input Instr) → readTable t ≡ i → FileReply (WriteTrace t K room) i
       → First (WriteTrace t K room) ((Tracing.answered K room i) .reply) ((Tracing.answered K room i) .offset)
   trace-first (Refused r at) q f = some-row f
-  trace-first (Accepted S is) q clear =
-      let inputs = table-inputs t S is q in
+  trace-first (Accepted head is) q clear =
+      let inputs = table-inputs t head is q in
+      let S = head .inputs in
       let ts = unwind Assume S is K in
-      let same : unwound ≡ unwind Assume S is K = ap₂ (λ S is. unwind Assume S is K) inputs (ap listed q) in
-      trace-tested (length ts) (encodeTrace S ts) (ap length same) (ap₂ encodeTrace inputs same) clear (leb K 255) refl
-      (leb (length ts) 4096 && leb (length (encodeTrace S ts)) 65535) refl (leb (length (encodeTrace S ts)) room) refl
+      let bytes = encodeTrace (traceHead S) ts in
+      let same : unwound ≡ unwind Assume (head .inputs) is K = ap₂ (λ S is. unwind Assume S is K) inputs (ap listed q) in
+      trace-tested (length ts) bytes (ap length same) (ap₂ (λ S ts. encodeTrace (traceHead S) ts) inputs same) clear (leb K 255) refl
+      (leb (length ts) 4096 && leb (length bytes) 65535) refl (leb (length bytes) room) refl
 
   pub write-trace-demand1 : All Byte t → Demand1 (WriteTrace t K room) ((traceAnswer t K room) .reply) ((traceAnswer t K room) .offset)
   unfolding traceAnswer
@@ -265,32 +269,32 @@ module _ (t : List ℕ) (room : ℕ) where
   abbrev slicing : Call
   slicing = SliceTrace t room
 
-  slice-tested : (S : ℕ) (kept : List Stmt) → result slicing ≡ encodeTrace S kept → Clear slicing (5 + 3 * headerCount t)
-      → (y : Bool) → leb (length (encodeTrace S kept)) room ≡ y
-      → First slicing ((cond y (Slicing.sliceOf S kept) (Slicing.refusal 10 0)) .reply)
-      ((cond y (Slicing.sliceOf S kept) (Slicing.refusal 10 0)) .offset)
-  slice-tested S kept i clear y f = go y f
+  slice-tested : (head : Head) (kept : List Stmt) → result slicing ≡ encodeTrace head kept → Clear slicing (5 + 3 * headerCount t)
+      → (y : Bool) → leb (length (encodeTrace head kept)) room ≡ y
+      → First slicing ((cond y (Slicing.sliceOf head kept) (Slicing.refusal 10 0)) .reply)
+      ((cond y (Slicing.sliceOf head kept) (Slicing.refusal 10 0)) .offset)
+  slice-tested head kept i clear y f = go y f
     where
-      total : length (result slicing) ≡ length (encodeTrace S kept)
+      total : length (result slicing) ≡ length (encodeTrace head kept)
       total = ap length i
 
       unsized : Clear slicing (7 + 3 * headerCount t)
       unsized = no-size slicing (no-bound slicing clear (λ h. h)) (λ h. h)
 
-      go : (y : Bool) → leb (length (encodeTrace S kept)) room ≡ y
-          → First slicing ((cond y (Slicing.sliceOf S kept) (Slicing.refusal 10 0)) .reply)
-          ((cond y (Slicing.sliceOf S kept) (Slicing.refusal 10 0)) .offset)
-      go false f = at-row slicing Room unsized (omega (arith, leb-false (length (encodeTrace S kept)) room f, total))
+      go : (y : Bool) → leb (length (encodeTrace head kept)) room ≡ y
+          → First slicing ((cond y (Slicing.sliceOf head kept) (Slicing.refusal 10 0)) .reply)
+          ((cond y (Slicing.sliceOf head kept) (Slicing.refusal 10 0)) .offset)
+      go false f = at-row slicing Room unsized (omega (arith, leb-false (length (encodeTrace head kept)) room f, total))
       go true f =
           no-row refl refl (no-valuation slicing
-          (no-room slicing unsized (λ h. omega (arith, leb-true (length (encodeTrace S kept)) room f, total))) (λ h. h))
+          (no-room slicing unsized (λ h. omega (arith, leb-true (length (encodeTrace head kept)) room f, total))) (λ h. h))
 
   slice-first : (i : Input Stmt) → readTrace t ≡ i → FileReply (SliceTrace t room) i
       → First (SliceTrace t room) ((Slicing.answered room i) .reply) ((Slicing.answered room i) .offset)
   slice-first (Refused r at) q f = some-row f
-  slice-first (Accepted S ts) q clear =
-      slice-tested S (slice ts) (ap₂ (λ S ts. encodeTrace S (slice ts)) (trace-inputs t S ts q) (ap listed q)) clear
-      (leb (length (encodeTrace S (slice ts))) room) refl
+  slice-first (Accepted head ts) q clear =
+      slice-tested head (slice ts) (ap₂ (λ head ts. encodeTrace head (slice ts)) (trace-head t head ts q) (ap listed q)) clear
+      (leb (length (encodeTrace head (slice ts))) room) refl
 
   pub slice-trace-demand1 : All Byte t → Demand1 (SliceTrace t room) ((sliceAnswer t room) .reply) ((sliceAnswer t room) .offset)
   unfolding sliceAnswer

@@ -23,6 +23,9 @@ use Rattle.unwind.specs.Unwind.{unwind}
 use Rattle.unwind.specs.Answer.{Traced, traceAnswer}
 use Rattle.slice.specs.Slice.{slice}
 use Rattle.slice.specs.Answer.{Sliced, sliceAnswer}
+use Rattle.file.specs.File.{headSize, headerInputs, inputsLimit, inputRoom, header}
+use Rattle.table.specs.Table.{isTable}
+use Rattle.trace.specs.Trace.{isTrace, traceVersion}
 
 -- ---- what is asked, and what is answered
 
@@ -138,7 +141,7 @@ all-hold [] h = tt
 all-hold (m number question told ∷ cs) h = (cc, all-hold cs cc)
 
 pub marked-hold : All Holds marked
-unfolding runAnswer readTable readFile headerReply records recordOf frame instr parseFrom readToken operator fits run value unary binary
-    remainderByZero signed
-    judgeAnswer readTrace stmt judge traceAnswer unwind places encode sliceAnswer slice ones
+unfolding runAnswer readTable isTable readFile headerReply headSize headerInputs headerCount inputsLimit inputRoom records recordOf frame
+    instr parseFrom readToken operator fits run value unary binary remainderByZero signed judgeAnswer readTrace isTrace traceVersion stmt
+    judge traceAnswer unwind places encode header sliceAnswer slice ones
 marked-hold = all-hold marked refl

@@ -17,10 +17,10 @@ use Rattle.expr.specs.TokenLaws.{Holds}
 use Rattle.expr.specs.Expr.{depthLimit, below}
 use Rattle.expr.specs.ExprLaws.{Ok}
 use Rattle.file.specs.Outcome.{Assume}
-use Rattle.file.specs.File.{headerInputs, headerCount}
+use Rattle.file.specs.File.{inputsLimit, headerVersion, headerSize, headerTotal, headerInputs, headerCount, headOf}
 use Rattle.file.specs.Shown.{listed}
-use Rattle.table.specs.Table.{readTable}
-use Rattle.trace.specs.Trace.{readTrace, encodeTrace}
+use Rattle.table.specs.Table.{isTable, readTable}
+use Rattle.trace.specs.Trace.{isTrace, readTrace, traceHead, encodeTrace}
 use Rattle.unwind.specs.Unwind.{unwind}
 use Rattle.slice.specs.Slice.{slice}
 use Rattle.demands.specs.Valuation.{Handed, lengthFor}
@@ -29,7 +29,7 @@ use Rattle.demands.specs.Valuation.{Handed, lengthFor}
 
 -- the first byte of record k: the first record follows the header, each other one the record before it
 abbrev pub recordAt : List ℕ → (k : ℕ) → ℕ
-recordAt s zero = 6
+recordAt s zero = headerSize s
 recordAt s (suc k) = recordAt s k + (2 + numberOf 2 (drop (recordAt s k) s))
 
 -- of the record at an offset: its length, its kind, and a number of w bytes that stands i bytes after the length
@@ -53,9 +53,9 @@ abbrev pub fields : File → (kind : ℕ) → Option ℕ
 fields Table kind = cond (eqb kind 1) (some 2) (cond (eqb kind 2) (some 1) (cond (eqb kind 3) (some 1) (cond (eqb kind 4) (some 3) none)))
 fields Trace kind = cond (eqb kind 1) (some 5) (cond (eqb kind 2) (some 3) (cond (eqb kind 3) (some 3) none))
 
-abbrev pub version : File → ℕ
-version Table = 1
-version Trace = 129
+abbrev pub known : File → (version : ℕ) → Bool
+known Table version = isTable version
+known Trace version = isTrace version
 
 abbrev pub limit : File → ℕ
 limit Table = 1024
@@ -159,15 +159,16 @@ offset s Valuation = 0
 abbrev pub result : Call → List ℕ
 result (Run h t K v) = []
 result (Judge h t v) = []
-result (WriteTrace t K room) = encodeTrace (headerInputs t) (unwind Assume (headerInputs t) (listed (readTable t)) K)
-result (SliceTrace t room) = encodeTrace (headerInputs t) (slice (listed (readTrace t)))
+result (WriteTrace t K room) = encodeTrace (traceHead (headerInputs t)) (unwind Assume (headerInputs t) (listed (readTable t)) K)
+result (SliceTrace t room) = encodeTrace (headOf t) (slice (listed (readTrace t)))
 
 -- when a row holds
 abbrev pub When : Call → Row → Type 0
-When c Short = length (bytesOf c) < 6
-When c Version = getD (bytesOf c) 0 0 ≡ version (fileOf c) → ⊥
-When c Total = numberOf 2 (drop 1 (bytesOf c)) ≡ length (bytesOf c) → ⊥
-When c Limits = (headerInputs (bytesOf c) ≤ 64) × (headerCount (bytesOf c) ≤ limit (fileOf c)) → ⊥
+When c Short = length (bytesOf c) < headerSize (bytesOf c)
+When c Version = known (fileOf c) (headerVersion (bytesOf c)) ≡ false
+When c Total = headerTotal (bytesOf c) ≡ length (bytesOf c) → ⊥
+When c Limits =
+    (headerInputs (bytesOf c) ≤ inputsLimit (headerVersion (bytesOf c))) × (headerCount (bytesOf c) ≤ limit (fileOf c)) → ⊥
 When c (Frame k) = (k < headerCount (bytesOf c)) × Framing (fileOf c) (bytesOf c) (recordAt (bytesOf c) k)
 When c (Rule k) = (k < headerCount (bytesOf c)) × Ruling (fileOf c) (bytesOf c) k (recordAt (bytesOf c) k)
 When c (Expression k) = (k < headerCount (bytesOf c)) × Wording (fileOf c) (bytesOf c) k (recordAt (bytesOf c) k)

@@ -3,19 +3,18 @@
 use Prim.Native.Nat.{ℕ, zero, suc, _+_, _^_, _≤_, _<_}
 use native.Mathlib.Omega.{arith}
 use mathlib.Core.Path.{_≡_, refl, sym, ap, ap₂, _∙_, subst}
-use mathlib.Core.Bool.{cond, _&&_}
+use mathlib.Core.Bool.{Bool, true}
 use mathlib.Core.List.{List, [], _∷_, _++_, append-assoc}
 use lib.ListN.{length, take, drop, length-drop, length-append, take-append-drop}
 use lib.Seq.{length-take-le, drop-drop, drop-at, take-at}
-use lib.Dec.{leb, eqb}
-use borrow.Author.Tests.{eq-eqb, le-leb}
-use Rattle.expr.specs.Lists.{All, all-take, all-drop, both-and}
+use Rattle.expr.specs.Lists.{All, all-take, all-drop}
 use Rattle.expr.specs.Number.{Byte, numberOf, bytesOf}
 use Rattle.expr.specs.NumberLaws.{bytesOf-length, number-written, bytes-read}
-use Rattle.file.specs.File.{headerInputs, headerCount, headerReply, Body, Good, field, frame, Records, Read, Accepted, recordOf}
-use Rattle.file.specs.File.{before, onRecord, records, finish, readFile, recordBytes, recordsBytes, encode}
-use Rattle.file.specs.FileLaws.{field-there, frame-there, framed, record-framed, record-good, next-record, Chain, Header, header-is}
-use Rattle.file.specs.FileLaws.{file-read, file-is}
+use Rattle.file.specs.File.{Head, headSize, inputsLimit, headerVersion, headerSize, headerTotal, headerInputs, headerCount, headOf}
+use Rattle.file.specs.File.{afterHeader, Body, Good, field, frame, Records, Read, Accepted, recordOf, before, onRecord, records, finish}
+use Rattle.file.specs.File.{readFile, header, recordBytes, recordsBytes, encode}
+use Rattle.file.specs.FileLaws.{field-there, frame-there, framed, record-framed, record-good, next-record, Chain, header-length}
+use Rattle.file.specs.FileLaws.{version-written, inputs-written, total-written, count-written, header-is, header-right, file-read, file-is}
 
 -- ---- read, then written
 
@@ -57,35 +56,37 @@ module _ {A St : Type 0} (bytes : A → List ℕ) (one : St → List ℕ → Bod
         ap suc (rest .1),
       )
 
-module _ {A : Type 0} (bytes : A → List ℕ) (version limit : ℕ) where
-  header-same : (s : List ℕ) (S : ℕ) (xs : List A) → All Byte s → Header version limit s → headerInputs s ≡ S
-      → recordsBytes bytes xs ≡ drop 6 s → length xs ≡ headerCount s → encode bytes version S xs ≡ s
-  unfolding encode
-  header-same [] S xs o h i r n = absurd (omega (arith, h .long))
-  header-same (a ∷ []) S xs o h i r n = absurd (omega (arith, h .long))
-  header-same (a ∷ b ∷ []) S xs o h i r n = absurd (omega (arith, h .long))
-  header-same (a ∷ b ∷ c ∷ []) S xs o h i r n = absurd (omega (arith, h .long))
-  header-same (a ∷ b ∷ c ∷ d ∷ []) S xs o h i r n = absurd (omega (arith, h .long))
-  header-same (a ∷ b ∷ c ∷ d ∷ e ∷ []) S xs o h i r n = absurd (omega (arith, h .long))
-  header-same (a ∷ b ∷ c ∷ d ∷ e ∷ f ∷ s) S xs o h i r n =
-      let l : 6 + length (recordsBytes bytes xs) ≡ numberOf 2 (b ∷ c ∷ []) = omega (arith, ap length r, h .total) in
-      let p : bytesOf 2 (6 + length (recordsBytes bytes xs)) ≡ b ∷ c ∷ [] = ap (bytesOf 2) l
-      ∙ bytes-read 2 (b ∷ c ∷ []) (o .1 .0, (o .1 .1 .0, tt)) (omega arith) in
-      let q : bytesOf 2 (length xs) ≡ e ∷ f ∷ [] = ap (bytesOf 2) n
-      ∙ bytes-read 2 (e ∷ f ∷ []) (o .1 .1 .1 .1 .0, (o .1 .1 .1 .1 .1 .0, tt)) (omega arith) in
-      let z : version ≡ a = sym (h .right) in
-      let w : S ≡ d = sym i in
-      λ j. (z j ∷ p j ++ w j ∷ q j) ++ r j
+-- the header of a file, written again
+header-same : (s : List ℕ) → All Byte s → headerSize s ≤ length s → header (headOf s) (headerTotal s) (headerCount s) ++ afterHeader s ≡ s
+unfolding header headSize headerInputs headerCount
+header-same [] o h = absurd (omega arith)
+header-same (a ∷ []) o h = absurd (omega arith)
+header-same (a ∷ b ∷ []) o h = absurd (omega arith)
+header-same (a ∷ b ∷ c ∷ []) o h = absurd (omega arith)
+header-same (a ∷ b ∷ c ∷ d ∷ []) o h = absurd (omega arith)
+header-same (a ∷ b ∷ c ∷ d ∷ e ∷ []) o h = absurd (omega arith)
+header-same (a ∷ b ∷ c ∷ d ∷ e ∷ f ∷ s) o h =
+    let p : bytesOf 2 (numberOf 2 (b ∷ c ∷ [])) ≡ b ∷ c ∷ [] = bytes-read 2 (b ∷ c ∷ []) (o .1 .0, (o .1 .1 .0, tt)) (omega arith) in
+    let q : bytesOf 2 (numberOf 2 (e ∷ f ∷ [])) ≡ e ∷ f ∷ [] =
+    bytes-read 2 (e ∷ f ∷ []) (o .1 .1 .1 .1 .0, (o .1 .1 .1 .1 .1 .0, tt)) (omega arith) in
+    λ j. (a ∷ p j ++ d ∷ q j) ++ s
 
 -- a file that is read, written again, is its bytes
-pub file-same : {A St : Type 0} (bytes : A → List ℕ) (one : ℕ → St → List ℕ → Body A) (next : St → A → St) (first : ℕ → St)
-    → ((S : ℕ) (σ : St) (body : List ℕ) (a : A) → All Byte body → one S σ body ≡ Good a → bytes a ≡ body)
-    → (version limit : ℕ) (s : List ℕ) (S : ℕ) (xs : List A) → All Byte s
-    → readFile version limit (λ S n. records (one S) next n (first S)) s ≡ Accepted S xs → encode bytes version S xs ≡ s
-file-same bytes one next first same version limit s S xs o h =
-    let f = file-is version limit (λ S n. records (one S) next n (first S)) s S xs h in
-    let r = records-same bytes (one S) next (same S) s o (headerCount s) 6 (first S) xs (f .read) in
-    header-same bytes version limit s S xs o (header-is version limit s (f .header)) (f .inputs) (r .0) (r .1)
+pub file-same : {A St : Type 0} (bytes : A → List ℕ) (one : Head → St → List ℕ → Body A) (next : St → A → St) (first : Head → St)
+    → ((head : Head) (σ : St) (body : List ℕ) (a : A) → All Byte body → one head σ body ≡ Good a → bytes a ≡ body)
+    → (known : ℕ → Bool) (limit : ℕ) (s : List ℕ) (head : Head) (xs : List A) → All Byte s
+    → readFile known limit (λ head n. records (one head) next n (first head)) s ≡ Accepted head xs → encode bytes head xs ≡ s
+unfolding encode
+file-same bytes one next first same known limit s head xs o h =
+    let f = file-is known limit (λ head n. records (one head) next n (first head)) s head xs h in
+    let r = records-same bytes (one head) next (same head) s o (headerCount s) (headerSize s) (first head) xs (f .read) in
+    let k = header-is known limit s (f .header) in
+    let version : headSize (head .version) ≡ headerSize s = ap (λ h. headSize (h .version)) (sym (f .is)) in
+    let total : headSize (head .version) + length (recordsBytes bytes xs) ≡ headerTotal s =
+    omega (arith, ap length (r .0), length-drop (headerSize s) s, k .long, k .total) in
+    ap₂ (λ t n. header head t n ++ recordsBytes bytes xs) total (r .1)
+    ∙ ap₂ (λ h b. header h (headerTotal s) (headerCount s) ++ b) (sym (f .is)) (r .0)
+    ∙ header-same s o (k .long)
 
 -- ---- written, then read
 
@@ -122,28 +123,62 @@ module _ {A St : Type 0} (bytes : A → List ℕ) (one : St → List ℕ → Bod
       ∙ drop-at (bytes a) rest (length (bytes a)) refl)
       ∙ ap (before a) (records-written (next σ a) xs (c .1) (omega arith))
 
--- a file that is written within the limits is read as what was written
-pub file-written : {A : Type 0} (bytes : A → List ℕ) (version limit : ℕ) (body : (S n : ℕ) → List ℕ → Records A) (S : ℕ) (xs : List A)
-    → S ≤ 64 → length xs ≤ limit → limit < 65536 → 6 + length (recordsBytes bytes xs) < 65536
-    → body S (length xs) (recordsBytes bytes xs) ≡ Read xs
-    → readFile version limit body (encode bytes version S xs) ≡ Accepted S xs
-unfolding encode headerReply
-file-written bytes version limit body S xs s c m l h =
-    let bs : List ℕ = encode bytes version S xs in
-    let t : ℕ = 6 + length (recordsBytes bytes xs) in
+pub encode-length : {A : Type 0} (bytes : A → List ℕ) (head : Head) (xs : List A)
+    → length (encode bytes head xs) ≡ headSize (head .version) + length (recordsBytes bytes xs)
+unfolding encode
+encode-length bytes head xs =
     let r : List ℕ = recordsBytes bytes xs in
-    let n : headerCount bs ≡ length xs = number-written 2 (length xs) r (omega arith) in
-    let g : numberOf 2 (drop 1 bs) ≡ t = number-written 2 t (S ∷ bytesOf 2 (length xs) ++ r) l in
-    file-read version limit body bs (
-    ap (λ b. cond b (cond (eqb version version)
-    (cond (eqb (numberOf 2 (drop 1 bs)) (length bs)) (cond (leb S 64 && leb (headerCount bs) limit) 0 4) 3) 2) 1)
-    (le-leb 6 (length bs) (omega arith))
-    ∙ ap (λ b. cond b (cond (eqb (numberOf 2 (drop 1 bs)) (length bs)) (cond (leb S 64 && leb (headerCount bs) limit) 0 4) 3) 2)
-    (eq-eqb version version refl)
-    ∙ ap (λ b. cond b (cond (leb S 64 && leb (headerCount bs) limit) 0 4) 3) (eq-eqb (numberOf 2 (drop 1 bs)) (length bs) (omega arith))
-    ∙ ap (λ b. cond b 0 4) (both-and (leb S 64) (leb (headerCount bs) limit) (le-leb S 64 s) (le-leb (headerCount bs) limit (omega arith))))
-    ∙ ap (λ k. finish (length bs) S (body S k r)) n
-    ∙ ap (finish (length bs) S) h
+    let t : ℕ = headSize (head .version) + length (recordsBytes bytes xs) in
+    length-append (header head t (length xs)) r ∙ ap (λ k. k + length r) (header-length head t (length xs))
+
+-- what is read of a file that is written: its header, the number of its records, and they
+module _ {A : Type 0} (bytes : A → List ℕ) (head : Head) (xs : List A) where
+  abbrev rest : List ℕ
+  rest = recordsBytes bytes xs
+
+  abbrev total : ℕ
+  total = headSize (head .version) + length (recordsBytes bytes xs)
+
+  pub encode-head : headOf (encode bytes head xs) ≡ head
+  unfolding encode
+  encode-head = ap₂ (λ v S. record { version = v; inputs = S }) (version-written head total (length xs) rest)
+      (inputs-written head total (length xs) rest)
+
+  pub encode-count : length xs < 65536 → headerCount (encode bytes head xs) ≡ length xs
+  unfolding encode
+  encode-count h = count-written head total (length xs) rest h
+
+  pub encode-total : length (encode bytes head xs) < 65536 → headerTotal (encode bytes head xs) ≡ length (encode bytes head xs)
+  unfolding encode
+  encode-total h = let l = encode-length bytes head xs in total-written head total (length xs) rest (omega (arith, l)) ∙ sym l
+
+  pub encode-after : afterHeader (encode bytes head xs) ≡ recordsBytes bytes xs
+  unfolding encode
+  encode-after =
+      ap (λ h. drop (headSize (h .version)) (encode bytes head xs)) encode-head
+      ∙ drop-at (header head total (length xs)) rest (headSize (head .version)) (header-length head total (length xs))
+
+-- a file that is written within the limits is read as what was written
+pub file-written : {A : Type 0} (bytes : A → List ℕ) (known : ℕ → Bool) (limit : ℕ)
+    (body : (head : Head) (n : ℕ) → List ℕ → Records A) (head : Head) (xs : List A)
+    → known (head .version) ≡ true → head .inputs ≤ inputsLimit (head .version) → length xs ≤ limit → limit < 65536
+    → length (encode bytes head xs) < 65536 → body head (length xs) (recordsBytes bytes xs) ≡ Read xs
+    → readFile known limit body (encode bytes head xs) ≡ Accepted head xs
+file-written bytes known limit body head xs v s c m l h =
+    let bs : List ℕ = encode bytes head xs in
+    let is : headOf bs ≡ head = encode-head bytes head xs in
+    let count : headerCount bs ≡ length xs = encode-count bytes head xs (omega arith) in
+    let version : headerVersion bs ≡ head .version = ap (λ h. h .version) is in
+    file-read known limit body bs (header-right known limit bs record {
+      long = omega (arith, ap headSize version, encode-length bytes head xs);
+      right = ap known version ∙ v;
+      total = encode-total bytes head xs l;
+      inputs = omega (arith, ap (λ h. h .inputs) is, ap inputsLimit version);
+      count = omega (arith, count);
+    })
+    ∙ ap₂ (λ h k. finish (length bs) h (body h k (afterHeader bs))) is count
+    ∙ ap (λ q. finish (length bs) head (body head (length xs) q)) (encode-after bytes head xs)
+    ∙ ap (finish (length bs) head) h
 
 -- a field that is written is read again
 pub field-written : {A : Type 0} (k n : ℕ) (rest : List ℕ) (f : ℕ → List ℕ → Body A) → n < 256 ^ k

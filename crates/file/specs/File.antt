@@ -8,21 +8,53 @@ use Rattle.expr.specs.Number.{numberOf, bytesOf}
 use Rattle.expr.specs.Token.{Token}
 use Rattle.expr.specs.Expr.{Parsed, Whole, Breaks}
 
--- ---- the header, 6 bytes
+-- ---- the header
 
-abbrev pub headerInputs : List ℕ → ℕ
+-- what a header says of its file
+pub record Head : Type 0 where
+  pub version : ℕ
+  pub inputs : ℕ
+
+-- a header's bytes, by version
+unfoldable pub headSize : (version : ℕ) → ℕ
+headSize version = 6
+
+-- the most inputs, by version, and in any
+unfoldable pub inputRoom : ℕ
+inputRoom = 64
+
+unfoldable pub inputsLimit : (version : ℕ) → ℕ
+inputsLimit version = inputRoom
+
+-- where a file's bytes say it
+abbrev pub headerVersion : List ℕ → ℕ
+headerVersion bs = getD bs 0 0
+
+abbrev pub headerSize : List ℕ → ℕ
+headerSize bs = headSize (headerVersion bs)
+
+abbrev pub headerTotal : List ℕ → ℕ
+headerTotal bs = numberOf 2 (drop 1 bs)
+
+unfoldable pub headerInputs : List ℕ → ℕ
 headerInputs bs = getD bs 3 0
 
-abbrev pub headerCount : List ℕ → ℕ
+unfoldable pub headerCount : List ℕ → ℕ
 headerCount bs = numberOf 2 (drop 4 bs)
 
--- the first of the replies 1 to 4 that a file of this version with at most `limit` records gets, or 0
-unfoldable pub headerReply : (version limit : ℕ) → List ℕ → ℕ
-headerReply version limit bs =
-    cond (leb 6 (length bs))
-    (cond (eqb (getD bs 0 0) version)
-    (cond (eqb (numberOf 2 (drop 1 bs)) (length bs))
-    (cond (leb (headerInputs bs) 64 && leb (headerCount bs) limit) 0 4)
+abbrev pub headOf : List ℕ → Head
+headOf bs = record { version = headerVersion bs; inputs = headerInputs bs }
+
+abbrev pub afterHeader : List ℕ → List ℕ
+afterHeader bs = drop (headerSize bs) bs
+
+-- the first of the replies 1 to 4 that a file of a known version with at most `limit` records gets, or 0
+unfoldable pub headerReply : (known : ℕ → Bool) (limit : ℕ) → List ℕ → ℕ
+headerReply known limit bs =
+    cond (leb (headerSize bs) (length bs))
+    (cond (known (headerVersion bs))
+    (cond (eqb (headerTotal bs) (length bs))
+    (cond (leb (headerInputs bs) (inputsLimit (headerVersion bs)) && leb (headerCount bs) limit) 0 4)
     3)
     2)
     1
@@ -59,9 +91,9 @@ pub data Records (A : Type 0) : Type 0 where
   Read : List A → Records A
   Stop : (reply : ℕ) → List ℕ → Records A
 
--- S and the records, or a reply with its offset
+-- what the header says and the records, or a reply with its offset
 pub data Input (A : Type 0) : Type 0 where
-  Accepted : (S : ℕ) → List A → Input A
+  Accepted : (head : Head) → List A → Input A
   Refused : (reply offset : ℕ) → Input A
 
 module _ {A : Type 0} where
@@ -82,21 +114,21 @@ module _ {A : Type 0} where
   records one next zero σ (b ∷ bs) = Stop 5 (b ∷ bs)
   records one next (suc c) σ bs = onRecord bs (recordOf (one σ) bs) (λ a. records one next c (next σ a) (drop (2 + frame bs) bs))
 
-  abbrev pub finish : (total S : ℕ) → Records A → Input A
-  finish total S (Read xs) = Accepted S xs
-  finish total S (Stop r bs) = Refused r (total - length bs)
+  abbrev pub finish : (total : ℕ) (head : Head) → Records A → Input A
+  finish total head (Read xs) = Accepted head xs
+  finish total head (Stop r bs) = Refused r (total - length bs)
 
-  -- a file, whose records `body S n` reads off the bytes after the header
-  unfoldable pub readFile : (version limit : ℕ) → (body : (S n : ℕ) → List ℕ → Records A) → List ℕ → Input A
-  readFile version limit body bs =
-      cond (eqb (headerReply version limit bs) 0)
-      (finish (length bs) (headerInputs bs) (body (headerInputs bs) (headerCount bs) (drop 6 bs)))
-      (Refused (headerReply version limit bs) 0)
+  -- a file, whose n records `body head n` reads off the bytes after the header
+  unfoldable pub readFile : (known : ℕ → Bool) (limit : ℕ) → (body : (head : Head) (n : ℕ) → List ℕ → Records A) → List ℕ → Input A
+  readFile known limit body bs =
+      cond (eqb (headerReply known limit bs) 0)
+      (finish (length bs) (headOf bs) (body (headOf bs) (headerCount bs) (afterHeader bs)))
+      (Refused (headerReply known limit bs) 0)
 
 -- ---- writing
 
-abbrev pub header : (version total S n : ℕ) → List ℕ
-header version total S n = version ∷ bytesOf 2 total ++ S ∷ bytesOf 2 n
+unfoldable pub header : (head : Head) (total n : ℕ) → List ℕ
+header head total n = head .version ∷ bytesOf 2 total ++ head .inputs ∷ bytesOf 2 n
 
 module _ {A : Type 0} (bytes : A → List ℕ) where
   abbrev pub recordBytes : A → List ℕ
@@ -106,5 +138,5 @@ module _ {A : Type 0} (bytes : A → List ℕ) where
   recordsBytes [] = []
   recordsBytes (a ∷ xs) = recordBytes a ++ recordsBytes xs
 
-  unfoldable pub encode : (version S : ℕ) → List A → List ℕ
-  encode version S xs = header version (6 + length (recordsBytes xs)) S (length xs) ++ recordsBytes xs
+  unfoldable pub encode : (head : Head) → List A → List ℕ
+  encode head xs = header head (headSize (head .version) + length (recordsBytes xs)) (length xs) ++ recordsBytes xs

@@ -12,15 +12,17 @@ use lib.Seq.{length-take-le, take-all, take-suc, drop-drop, drop-cons, getD-drop
 use lib.Dec.{leb, eqb}
 use borrow.Author.Tests.{eqb-true, eqb-false, eq-eqb, ne-eqb, leb-true, leb-false, le-leb, lt-leb}
 use Rattle.expr.specs.Lists.{and-both}
-use Rattle.expr.specs.Number.{numberOf}
+use Rattle.expr.specs.Number.{numberOf, bytesOf}
+use Rattle.expr.specs.NumberLaws.{number-written}
 use Rattle.expr.specs.Token.{Token}
 use Rattle.expr.specs.declared.File.{File}
 use Rattle.expr.specs.declared.accept.Checked.the-variants.{Fine, Broken}
 use Rattle.expr.specs.Shown.{checked}
 use Rattle.expr.specs.Expr.{Parsed, Whole, Breaks, parse}
 use Rattle.expr.specs.Eval.{envOf}
-use Rattle.file.specs.Shown.{replyOf, exprReply, oneMore, readCount, readingOf, offsetsFrom}
-use Rattle.file.specs.File.{headerInputs, headerCount, headerReply, Body, Good, Bad, field, rule, holding, frame, Records, Read}
+use Rattle.file.specs.Shown.{replyOf, exprReply, oneMore, readCount, readingOf, offsetsFrom, offsetsIn}
+use Rattle.file.specs.File.{Head, headSize, inputRoom, inputsLimit, headerVersion, headerSize, headerTotal, headerInputs, headerCount}
+use Rattle.file.specs.File.{headOf, afterHeader, headerReply, header, Body, Good, Bad, field, rule, holding, frame, Records, Read}
 use Rattle.file.specs.File.{Stop, Accepted, Refused, recordOf, before, onRecord, records, finish, readFile}
 
 -- ---- frames
@@ -266,105 +268,166 @@ module _ {A St : Type 0} (one : St → List ℕ → Body A) (next : St → A →
 
 -- ---- files
 
+-- room for the inputs of any version, and for the symbols of any trace
+pub inputs-room : (version : ℕ) → inputsLimit version ≤ inputRoom
+unfolding inputsLimit
+inputs-room version = omega arith
+
+pub symbols-in-two-bytes : inputRoom + 4096 ≤ 65536
+unfolding inputRoom
+symbols-in-two-bytes = omega arith
+
+-- no header has fewer than six bytes, and none is long
+pub head-long : (version : ℕ) → 6 ≤ headSize version
+unfolding headSize
+head-long version = omega arith
+
+pub head-short : (version : ℕ) → headSize version < 65536
+unfolding headSize
+head-short version = omega arith
+
+-- a header that is written: its bytes, and what is read of it
+pub header-length : (head : Head) (total n : ℕ) → length (header head total n) ≡ headSize (head .version)
+unfolding header headSize
+header-length head total n = refl
+
+module _ (head : Head) (total n : ℕ) (rest : List ℕ) where
+  pub version-written : headerVersion (header head total n ++ rest) ≡ head .version
+  unfolding header
+  version-written = refl
+
+  pub inputs-written : headerInputs (header head total n ++ rest) ≡ head .inputs
+  unfolding header headerInputs
+  inputs-written = refl
+
+  pub total-written : total < 65536 → headerTotal (header head total n ++ rest) ≡ total
+  unfolding header
+  total-written h = number-written 2 total (head .inputs ∷ bytesOf 2 n ++ rest) h
+
+  pub count-written : n < 65536 → headerCount (header head total n ++ rest) ≡ n
+  unfolding header headerCount
+  count-written h = number-written 2 n rest h
+
 -- an accepted file
-pub record Header (version limit : ℕ) (s : List ℕ) : Type 0 where
-  pub long : 6 ≤ length s
-  pub right : getD s 0 0 ≡ version
-  pub total : numberOf 2 (drop 1 s) ≡ length s
-  pub inputs : headerInputs s ≤ 64
+pub record Header (known : ℕ → Bool) (limit : ℕ) (s : List ℕ) : Type 0 where
+  pub long : headerSize s ≤ length s
+  pub right : known (headerVersion s) ≡ true
+  pub total : headerTotal s ≡ length s
+  pub inputs : headerInputs s ≤ inputsLimit (headerVersion s)
   pub count : headerCount s ≤ limit
 
-pub header-is : (version limit : ℕ) (s : List ℕ) → headerReply version limit s ≡ 0 → Header version limit s
-unfolding headerReply
-header-is v limit s h =
-    go (leb 6 (length s)) refl (eqb (getD s 0 0) v) refl (eqb (numberOf 2 (drop 1 s)) (length s)) refl
-    (leb (headerInputs s) 64 && leb (headerCount s) limit) refl h
-  where
-    go : (a : Bool) → leb 6 (length s) ≡ a → (b : Bool) → eqb (getD s 0 0) v ≡ b → (c : Bool) → eqb (numberOf 2 (drop 1 s)) (length s) ≡ c
-        → (d : Bool) → (leb (headerInputs s) 64 && leb (headerCount s) limit) ≡ d
-        → _≡_ {A = ℕ} (cond a (cond b (cond c (cond d 0 4) 3) 2) 1) 0 → Header v limit s
-    go false p b q c r d t h = absurd (omega arith)
-    go true p false q c r d t h = absurd (omega arith)
-    go true p true q false r d t h = absurd (omega arith)
-    go true p true q true r false t h = absurd (omega arith)
-    go true p true q true r true t h =
-        let k = and-both (leb (headerInputs s) 64) (leb (headerCount s) limit) t in
-        record {
-          long = leb-true 6 (length s) p;
-          right = eqb-true (getD s 0 0) v q;
-          total = eqb-true (numberOf 2 (drop 1 s)) (length s) r;
-          inputs = leb-true (headerInputs s) 64 (k .0);
-          count = leb-true (headerCount s) limit (k .1);
-        }
+module _ (known : ℕ → Bool) (limit : ℕ) (s : List ℕ) where
+  -- with the code's own answer whether the version is known
+  pub header-known : {b : Bool} {r : ℕ} → b ≡ known (headerVersion s) → r ≡ headerReply (λ version. b) limit s
+      → r ≡ headerReply known limit s
+  unfolding headerReply
+  header-known e h = h ∙ ap (λ b. headerReply (λ version. b) limit s) e
 
-module _ {A : Type 0} (version limit : ℕ) (body : (S n : ℕ) → List ℕ → Records A) (s : List ℕ) where
-  pub file-refused : (r : ℕ) → headerReply version limit s ≡ r → (r ≡ 0 → ⊥) → readFile version limit body s ≡ Refused r 0
+  pub header-is : headerReply known limit s ≡ 0 → Header known limit s
+  unfolding headerReply
+  header-is h =
+      go (leb (headerSize s) (length s)) refl (known (headerVersion s)) refl (eqb (headerTotal s) (length s)) refl
+      (leb (headerInputs s) (inputsLimit (headerVersion s)) && leb (headerCount s) limit) refl h
+    where
+      go : (a : Bool) → leb (headerSize s) (length s) ≡ a → (b : Bool) → known (headerVersion s) ≡ b
+          → (c : Bool) → eqb (headerTotal s) (length s) ≡ c
+          → (d : Bool) → (leb (headerInputs s) (inputsLimit (headerVersion s)) && leb (headerCount s) limit) ≡ d
+          → _≡_ {A = ℕ} (cond a (cond b (cond c (cond d 0 4) 3) 2) 1) 0 → Header known limit s
+      go false p b q c r d t h = absurd (omega arith)
+      go true p false q c r d t h = absurd (omega arith)
+      go true p true q false r d t h = absurd (omega arith)
+      go true p true q true r false t h = absurd (omega arith)
+      go true p true q true r true t h =
+          let k = and-both (leb (headerInputs s) (inputsLimit (headerVersion s))) (leb (headerCount s) limit) t in
+          record {
+            long = leb-true (headerSize s) (length s) p;
+            right = q;
+            total = eqb-true (headerTotal s) (length s) r;
+            inputs = leb-true (headerInputs s) (inputsLimit (headerVersion s)) (k .0);
+            count = leb-true (headerCount s) limit (k .1);
+          }
+
+  pub header-right : Header known limit s → headerReply known limit s ≡ 0
+  unfolding headerReply
+  header-right h =
+      simp (
+        le-leb (headerSize s) (length s) (h .long),
+        h .right,
+        eq-eqb (headerTotal s) (length s) (h .total),
+        le-leb (headerInputs s) (inputsLimit (headerVersion s)) (h .inputs),
+        le-leb (headerCount s) limit (h .count),
+      )
+
+module _ {A : Type 0} (known : ℕ → Bool) (limit : ℕ) (body : (head : Head) (n : ℕ) → List ℕ → Records A) (s : List ℕ) where
+  pub file-refused : (r : ℕ) → headerReply known limit s ≡ r → (r ≡ 0 → ⊥) → readFile known limit body s ≡ Refused r 0
   unfolding readFile
   file-refused r e h =
-      ap (λ x. cond (eqb x 0) (finish (length s) (headerInputs s) (body (headerInputs s) (headerCount s) (drop 6 s))) (Refused x 0)) e
-      ∙ ap (λ b. cond b (finish (length s) (headerInputs s) (body (headerInputs s) (headerCount s) (drop 6 s))) (Refused r 0))
+      ap (λ x. cond (eqb x 0) (finish (length s) (headOf s) (body (headOf s) (headerCount s) (afterHeader s))) (Refused x 0)) e
+      ∙ ap (λ b. cond b (finish (length s) (headOf s) (body (headOf s) (headerCount s) (afterHeader s))) (Refused r 0))
       (ne-eqb r 0 h)
 
-  pub file-read : headerReply version limit s ≡ 0 → readFile version limit body s ≡ finish (length s) (headerInputs s)
-      (body (headerInputs s) (headerCount s) (drop 6 s))
+  pub file-read : headerReply known limit s ≡ 0 → readFile known limit body s ≡ finish (length s) (headOf s)
+      (body (headOf s) (headerCount s) (afterHeader s))
   unfolding readFile
   file-read e =
-      ap (λ x. cond (eqb x 0) (finish (length s) (headerInputs s) (body (headerInputs s) (headerCount s) (drop 6 s))) (Refused x 0)) e
+      ap (λ x. cond (eqb x 0) (finish (length s) (headOf s) (body (headOf s) (headerCount s) (afterHeader s))) (Refused x 0)) e
 
   -- what an accepted file is
-  pub record IsFile (S : ℕ) (xs : List A) : Type 0 where
-    pub header : headerReply version limit s ≡ 0
-    pub inputs : headerInputs s ≡ S
-    pub read : body S (headerCount s) (drop 6 s) ≡ Read xs
+  pub record IsFile (head : Head) (xs : List A) : Type 0 where
+    pub header : headerReply known limit s ≡ 0
+    pub is : headOf s ≡ head
+    pub inputs : headerInputs s ≡ head .inputs
+    pub read : body head (headerCount s) (afterHeader s) ≡ Read xs
 
-  pub file-is : (S : ℕ) (xs : List A) → readFile version limit body s ≡ Accepted S xs → IsFile S xs
-  file-is S xs h = go (eqb (headerReply version limit s) 0) refl
+  pub file-is : (head : Head) (xs : List A) → readFile known limit body s ≡ Accepted head xs → IsFile head xs
+  file-is head xs h = go (eqb (headerReply known limit s) 0) refl
     where
-      done : (p : Records A) → body (headerInputs s) (headerCount s) (drop 6 s) ≡ p → finish (length s) (headerInputs s) p ≡ Accepted S xs
-          → headerReply version limit s ≡ 0 → IsFile S xs
+      done : (p : Records A) → body (headOf s) (headerCount s) (afterHeader s) ≡ p → finish (length s) (headOf s) p ≡ Accepted head xs
+          → headerReply known limit s ≡ 0 → IsFile head xs
       done (Stop r bs) q e z = absurd (let y : _≡_ {A = ℕ} 0 1 = cc in omega arith)
       done (Read ys) q e z =
-          let i : headerInputs s ≡ S = cc in
+          let i : headOf s ≡ head = cc in
           let x : ys ≡ xs = cc in
           record {
             header = z;
-            inputs = i;
-            read = subst (λ T. body T (headerCount s) (drop 6 s) ≡ Read xs) i
+            is = i;
+            inputs = ap (λ h. h .inputs) i;
+            read = subst (λ h. body h (headerCount s) (afterHeader s) ≡ Read xs) i
                 (q ∙ ap {B = Records A} Read x);
           }
 
-      go : (x : Bool) → eqb (headerReply version limit s) 0 ≡ x → IsFile S xs
-      go true e = let z = eqb-true (headerReply version limit s) 0 e in done (body (headerInputs s) (headerCount s) (drop 6 s)) refl
+      go : (x : Bool) → eqb (headerReply known limit s) 0 ≡ x → IsFile head xs
+      go true e = let z = eqb-true (headerReply known limit s) 0 e in done (body (headOf s) (headerCount s) (afterHeader s)) refl
           (sym (file-read z) ∙ h) z
       go false e =
-          absurd (let z = sym h ∙ file-refused (headerReply version limit s) refl (eqb-false (headerReply version limit s) 0 e) in
+          absurd (let z = sym h ∙ file-refused (headerReply known limit s) refl (eqb-false (headerReply known limit s) 0 e) in
           let y : _≡_ {A = ℕ} 0 1 = cc in omega arith)
 
 -- a refused file's reply is not 0
-module _ {A St : Type 0} (version limit : ℕ) (one : (S n : ℕ) → St → List ℕ → Body A) (next : St → A → St) (first : (S : ℕ) → St)
-    (low : (S n : ℕ) (σ : St) (bs : List ℕ) → Low (one S n σ bs)) (s : List ℕ) where
-  abbrev body : (S n : ℕ) → List ℕ → Records A
-  body S n bs = records (one S n) next n (first S) bs
+module _ {A St : Type 0} (known : ℕ → Bool) (limit : ℕ) (one : (head : Head) (n : ℕ) → St → List ℕ → Body A) (next : St → A → St)
+    (first : (head : Head) → St) (low : (head : Head) (n : ℕ) (σ : St) (bs : List ℕ) → Low (one head n σ bs)) (s : List ℕ) where
+  abbrev body : (head : Head) (n : ℕ) → List ℕ → Records A
+  body head n bs = records (one head n) next n (first head) bs
 
-  pub file-refused-positive : (r at : ℕ) → readFile version limit body s ≡ Refused r at → 0 < r
-  file-refused-positive r at h = go (eqb (headerReply version limit s) 0) refl
+  pub file-refused-positive : (r at : ℕ) → readFile known limit body s ≡ Refused r at → 0 < r
+  file-refused-positive r at h = go (eqb (headerReply known limit s) 0) refl
     where
-      S : ℕ
-      S = headerInputs s
-
       n : ℕ
       n = headerCount s
 
-      done : (p : Records A) → body S n (drop 6 s) ≡ p → finish (length s) S p ≡ Refused r at → 0 < r
+      done : (p : Records A) → body (headOf s) n (afterHeader s) ≡ p → finish (length s) (headOf s) p ≡ Refused r at → 0 < r
       done (Read xs) q e = absurd (let z : _≡_ {A = ℕ} 0 1 = cc in omega arith)
-      done (Stop k bs) q e = let z : k ≡ r = cc in omega (arith, stop-low (one S n) next (low S n) n (first S) (drop 6 s) k bs q)
+      done (Stop k bs) q e =
+          let z : k ≡ r = cc in
+          omega (arith, stop-low (one (headOf s) n) next (low (headOf s) n) n (first (headOf s)) (afterHeader s) k bs q)
 
-      go : (x : Bool) → eqb (headerReply version limit s) 0 ≡ x → 0 < r
-      go true e = done (body S n (drop 6 s)) refl (sym (file-read version limit body s (eqb-true (headerReply version limit s) 0 e)) ∙ h)
+      go : (x : Bool) → eqb (headerReply known limit s) 0 ≡ x → 0 < r
+      go true e =
+          done (body (headOf s) n (afterHeader s)) refl (sym (file-read known limit body s (eqb-true (headerReply known limit s) 0 e)) ∙ h)
       go false e =
-          let some : headerReply version limit s ≡ 0 → ⊥ = eqb-false (headerReply version limit s) 0 e in
-          let f = sym (file-refused version limit body s (headerReply version limit s) refl some) ∙ h in
-          let z : headerReply version limit s ≡ r = cc in
+          let some : headerReply known limit s ≡ 0 → ⊥ = eqb-false (headerReply known limit s) 0 e in
+          let f = sym (file-refused known limit body s (headerReply known limit s) refl some) ∙ h in
+          let z : headerReply known limit s ≡ r = cc in
           omega (arith, some)
 
 -- ---- where records stand
@@ -376,26 +439,25 @@ offsets-length (suc c) at bs = ap suc (offsets-length c (at + (2 + frame bs)) (d
 
 -- the records after the first k stand from `at` on
 abbrev pub Reached : (s : List ℕ) (k at : ℕ) → Type 0
-Reached s k at = (j : ℕ) → offsetsFrom (k + j) 6 (drop 6 s) ≡ offsetsFrom k 6 (drop 6 s) ++ offsetsFrom j at (drop at s)
+Reached s k at = (j : ℕ) → offsetsIn (k + j) s ≡ offsetsIn k s ++ offsetsFrom j at (drop at s)
 
-pub reached-start : (s : List ℕ) → Reached s 0 6
+pub reached-start : (s : List ℕ) → Reached s 0 (headerSize s)
 unfolding offsetsFrom
-reached-start s j = ap (λ n. offsetsFrom n 6 (drop 6 s)) (let e : 0 + j ≡ j = omega arith in e)
+reached-start s j = ap (λ n. offsetsIn n s) (let e : 0 + j ≡ j = omega arith in e)
 
 module _ (s : List ℕ) (k at : ℕ) (r : Reached s k at) where
-  pub reached-next : offsetsFrom (k + 1) 6 (drop 6 s) ≡ offsetsFrom k 6 (drop 6 s) ++ at ∷ []
+  pub reached-next : offsetsIn (k + 1) s ≡ offsetsIn k s ++ at ∷ []
   unfolding offsetsFrom
   reached-next = r 1
 
   pub reached-on : Reached s (k + 1) (at + (2 + frame (drop at s)))
   unfolding offsetsFrom
   reached-on j =
-      let bs = drop 6 s in
       let f = at + (2 + frame (drop at s)) in
-      ap (λ n. offsetsFrom n 6 bs) (let e : k + 1 + j ≡ k + suc j = omega arith in e)
+      ap (λ n. offsetsIn n s) (let e : k + 1 + j ≡ k + suc j = omega arith in e)
       ∙ r (suc j)
-      ∙ ap (λ q. offsetsFrom k 6 bs ++ at ∷ offsetsFrom j f q) (drop-drop (2 + frame (drop at s)) at s)
-      ∙ sym (append-snoc (offsetsFrom k 6 bs) at (offsetsFrom j f (drop f s)))
+      ∙ ap (λ q. offsetsIn k s ++ at ∷ offsetsFrom j f q) (drop-drop (2 + frame (drop at s)) at s)
+      ∙ sym (append-snoc (offsetsIn k s) at (offsetsFrom j f (drop f s)))
       ∙ ap (λ q. q ++ offsetsFrom j f (drop f s)) (sym reached-next)
 
 pub sets-snoc : (xs : List ℕ) (i : ℕ) (vs : List ℕ) (v : ℕ) → sets xs i (vs ++ v ∷ []) ≡ set (sets xs i vs) (i + length vs) v

@@ -9,8 +9,8 @@ use lib.Dec.{eqb}
 use Rattle.expr.specs.Number.{numberOf}
 use Rattle.expr.specs.Expr.{Parsed, Whole, Breaks}
 use Rattle.file.specs.Outcome.{Kind, Assume, Assert}
-use Rattle.file.specs.File.{headerInputs, headerCount, headerReply, Body, Good, Bad, frame, recordOf, Records, Read, Stop, records}
-use Rattle.file.specs.File.{Input, Accepted, Refused}
+use Rattle.file.specs.File.{Head, headerSize, headerCount, headOf, afterHeader, headerReply, Body, Good, Bad, frame, recordOf}
+use Rattle.file.specs.File.{Records, Read, Stop, records, Input, Accepted, Refused}
 use Rattle.file.specs.declared.Reading.{Reading}
 
 -- a reply's number, 0 for none
@@ -41,6 +41,10 @@ unfoldable pub offsetsFrom : (c at : ℕ) → List ℕ → List ℕ
 offsetsFrom zero at bs = []
 offsetsFrom (suc c) at bs = at ∷ offsetsFrom c (at + (2 + frame bs)) (drop (2 + frame bs) bs)
 
+-- and of a file's first c records
+abbrev pub offsetsIn : (c : ℕ) (s : List ℕ) → List ℕ
+offsetsIn c s = offsetsFrom c (headerSize s) (afterHeader s)
+
 -- in a file of `total` bytes, with `count` records read
 abbrev pub readingOf : {A : Type 0} → (total count : ℕ) → Records A → Reading
 readingOf total count (Read xs) = record { reply = 0; offset = 0; count = count }
@@ -58,39 +62,39 @@ module _ {A St : Type 0} (one : St → List ℕ → Body A) (next : St → A →
 
   -- the reading of the n records after a header, with the offsets of those that are read stored
   pub record ReadRecords (s : List ℕ) (n : ℕ) (σ : St) (before after : List ℕ) (r : Reading) : Type 0 where
-    pub answer : r ≡ readingOf (length s) (readCount n σ (drop 6 s)) (records one next n σ (drop 6 s))
-    pub stored : after ≡ sets before 0 (offsetsFrom (r .count) 6 (drop 6 s))
+    pub answer : r ≡ readingOf (length s) (readCount n σ (afterHeader s)) (records one next n σ (afterHeader s))
+    pub stored : after ≡ sets before 0 (offsetsIn (r .count) s)
 
 -- ---- a whole file
 
 abbrev pub isAccepted : {A : Type 0} → Input A → Bool
-isAccepted (Accepted S xs) = true
+isAccepted (Accepted head xs) = true
 isAccepted (Refused r o) = false
 
 abbrev pub listed : {A : Type 0} → Input A → List A
-listed (Accepted S xs) = xs
+listed (Accepted head xs) = xs
 listed (Refused r o) = []
 
 -- in a file of which `count` records are read
 abbrev pub fileReading : {A : Type 0} → (count : ℕ) → Input A → Reading
-fileReading count (Accepted S xs) = record { reply = 0; offset = 0; count = count }
+fileReading count (Accepted head xs) = record { reply = 0; offset = 0; count = count }
 fileReading count (Refused r at) = record { reply = r; offset = at; count = count }
 
 -- of a file's records, how many are read before the first refusal
-abbrev pub fileCount : {A St : Type 0} → (version limit : ℕ) → (one : (S n : ℕ) → St → List ℕ → Body A) → (next : St → A → St)
-    → (first : (S : ℕ) → St) → List ℕ → ℕ
-fileCount version limit one next first s =
-    cond (eqb (headerReply version limit s) 0)
-    (readCount (one (headerInputs s) (headerCount s)) next (headerCount s) (first (headerInputs s)) (drop 6 s)) 0
+abbrev pub fileCount : {A St : Type 0} → (known : ℕ → Bool) (limit : ℕ) → (one : (head : Head) (n : ℕ) → St → List ℕ → Body A)
+    → (next : St → A → St) → (first : (head : Head) → St) → List ℕ → ℕ
+fileCount known limit one next first s =
+    cond (eqb (headerReply known limit s) 0)
+    (readCount (one (headOf s) (headerCount s)) next (headerCount s) (first (headOf s)) (afterHeader s)) 0
 
 -- the reading of a file, with the offsets of the records that are read stored
 pub record ReadFile {A : Type 0} (file : Input A) (count : ℕ) (s before after : List ℕ) (r : Reading) : Type 0 where
   pub answer : r ≡ fileReading count file
-  pub stored : after ≡ sets before 0 (offsetsFrom count 6 (drop 6 s))
+  pub stored : after ≡ sets before 0 (offsetsIn count s)
 
 -- a file that is accepted, with its n records' offsets stored
 pub record Ready {A : Type 0} (file : Input A) (s offsets : List ℕ) (n : ℕ) : Type 0 where
   pub accepted : isAccepted file ≡ true
   pub count : n ≡ headerCount s
   pub room : n ≤ length offsets
-  pub stored : (i : ℕ) → i < n → getD offsets i 0 ≡ getD (offsetsFrom n 6 (drop 6 s)) i 0
+  pub stored : (i : ℕ) → i < n → getD offsets i 0 ≡ getD (offsetsIn n s) i 0

@@ -6,8 +6,8 @@ use mathlib.Core.Path.{_≡_, refl, sym, ap, ap₂, _∙_, subst}
 use mathlib.Core.List.{List, []}
 use lib.ListN.{length, drop, set, length-drop}
 use lib.Seq.{sets, length-sets}
-use Rattle.file.specs.File.{Body, Good, Bad, frame, Records, Read, Stop, recordOf, records}
-use Rattle.file.specs.Shown.{readCount, readingOf, offsetsFrom, ReadRecords}
+use Rattle.file.specs.File.{headerSize, afterHeader, Body, Good, Bad, frame, Records, Read, Stop, recordOf, records}
+use Rattle.file.specs.Shown.{readCount, readingOf, offsetsFrom, offsetsIn, ReadRecords}
 use Rattle.file.specs.FileLaws.{reading-before, records-good, records-bad, count-good, count-bad, records-end, records-spare}
 use Rattle.file.specs.FileLaws.{offsets-length, Reached, reached-start, reached-next, reached-on, sets-snoc}
 use Rattle.file.specs.declared.Reading.{Reading}
@@ -24,20 +24,21 @@ module _ {A St : Type 0} (one : St → List ℕ → Body A) (next : St → A →
     pub inside : at ≤ length s
     pub few : k ≤ n
     pub same : readingOf (length s) (k + readCount one next (n - k) σ (drop at s)) (records one next (n - k) σ (drop at s))
-        ≡ readingOf (length s) (readCount one next n σ₀ (drop 6 s)) (records one next n σ₀ (drop 6 s))
-    pub stored : off ≡ sets off₀ 0 (offsetsFrom k 6 (drop 6 s))
+        ≡ readingOf (length s) (readCount one next n σ₀ (afterHeader s)) (records one next n σ₀ (afterHeader s))
+    pub stored : off ≡ sets off₀ 0 (offsetsIn k s)
     pub reached : Reached s k at
 
-  pub start : 6 ≤ length s → Walking off₀ 6 0 σ₀
+  -- with the code's own size of the header
+  pub start : {at : ℕ} → at ≡ headerSize s → headerSize s ≤ length s → Walking off₀ at 0 σ₀
   unfolding offsetsFrom
-  start h =
+  start e h =
       let z : n - 0 ≡ n = omega arith in
-      record {
+      subst (λ at. Walking off₀ at 0 σ₀) (sym e) record {
         inside = h;
         few = omega arith;
-        same = ap₂ (λ m c. readingOf (length s) m (records one next c σ₀ (drop 6 s)))
-            (ap (λ c. 0 + readCount one next c σ₀ (drop 6 s)) z
-            ∙ (let y : 0 + readCount one next n σ₀ (drop 6 s) ≡ readCount one next n σ₀ (drop 6 s) = omega arith in y))
+        same = ap₂ (λ m c. readingOf (length s) m (records one next c σ₀ (afterHeader s)))
+            (ap (λ c. 0 + readCount one next c σ₀ (afterHeader s)) z
+            ∙ (let y : 0 + readCount one next n σ₀ (afterHeader s) ≡ readCount one next n σ₀ (afterHeader s) = omega arith in y))
             z;
         stored = refl;
         reached = reached-start s;
@@ -45,7 +46,7 @@ module _ {A St : Type 0} (one : St → List ℕ → Body A) (next : St → A →
 
   module _ {off : List ℕ} {at k : ℕ} {σ : St} (w : Walking off at k σ) where
     pub long : length off ≡ length off₀
-    long = ap length (w .stored) ∙ length-sets off₀ 0 (offsetsFrom k 6 (drop 6 s))
+    long = ap length (w .stored) ∙ length-sets off₀ 0 (offsetsIn k s)
 
     offset : length s - length (drop at s) ≡ at
     offset = omega (arith, length-drop at s, w .inside)
@@ -86,8 +87,8 @@ module _ {A St : Type 0} (one : St → List ℕ → Body A) (next : St → A →
                 ∙ w .same;
             stored =
                 ap₂ (λ o j. set o j at) (w .stored)
-                (let z : k ≡ 0 + length (offsetsFrom k 6 (drop 6 s)) = omega (arith, offsets-length k 6 (drop 6 s)) in z)
-                ∙ sym (sets-snoc off₀ 0 (offsetsFrom k 6 (drop 6 s)) at)
+                (let z : k ≡ 0 + length (offsetsIn k s) = omega (arith, offsets-length k (headerSize s) (afterHeader s)) in z)
+                ∙ sym (sets-snoc off₀ 0 (offsetsIn k s) at)
                 ∙ sym (ap (sets off₀ 0) (reached-next s k at (w .reached)));
             reached = reached-on s k at (w .reached);
           }
@@ -97,7 +98,7 @@ module _ {A St : Type 0} (one : St → List ℕ → Body A) (next : St → A →
       all = omega (arith, w .few)
 
       ended : (p : Records A) → records one next 0 σ (drop at s) ≡ p → readingOf (length s) (n + 0) p ≡ readingOf (length s)
-          (readCount one next n σ₀ (drop 6 s)) (records one next n σ₀ (drop 6 s))
+          (readCount one next n σ₀ (afterHeader s)) (records one next n σ₀ (afterHeader s))
       unfolding readCount
       ended p e =
           sym (ap₂ (λ j c. from j c σ at) all (let z : n - k ≡ 0 = omega arith in z) ∙ ap (readingOf (length s) (n + 0)) e)
@@ -108,7 +109,7 @@ module _ {A St : Type 0} (one : St → List ℕ → Body A) (next : St → A →
         answer =
             ap (λ c. record { reply = 0; offset = 0; count = c }) (let z : n ≡ n + 0 = omega arith in z)
             ∙ ended (Read []) (records-end one next s at σ (omega arith));
-        stored = w .stored ∙ ap (λ c. sets off₀ 0 (offsetsFrom c 6 (drop 6 s))) all;
+        stored = w .stored ∙ ap (λ c. sets off₀ 0 (offsetsIn c s)) all;
       }
 
       pub spare : (at ≡ length s → ⊥) → Done off (record { reply = 5; offset = at; count = n })
@@ -116,5 +117,5 @@ module _ {A St : Type 0} (one : St → List ℕ → Body A) (next : St → A →
         answer =
             ap₂ (λ o c. record { reply = 5; offset = o; count = c }) (sym offset) (let z : n ≡ n + 0 = omega arith in z)
             ∙ ended (Stop 5 (drop at s)) (records-spare one next s at σ (omega (arith, e, w .inside)));
-        stored = w .stored ∙ ap (λ c. sets off₀ 0 (offsetsFrom c 6 (drop 6 s))) all;
+        stored = w .stored ∙ ap (λ c. sets off₀ 0 (offsetsIn c s)) all;
       }

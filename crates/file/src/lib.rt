@@ -4,11 +4,12 @@ use expr::accept;
 use expr::accept::Checked;
 use expr::number;
 ghost use mathlib.Core.Path.{_≡_};
-ghost use Prim.Native.Nat.{_+_, _*_, _≤_};
+ghost use Prim.Native.Nat.{_+_, _*_, _≤_, _<_};
 ghost use lib.ListN.{length, drop};
 ghost use lib.Seq.{sets};
 ghost use Rattle.expr.specs.Number.{numberOf};
 ghost use Rattle.expr.specs.Expr.{readable, parse};
+ghost use Rattle.file.specs.File.{headSize, inputsLimit, headerVersion, headerSize, headerTotal, headerInputs, headerCount};
 ghost use Rattle.file.specs.File.{headerReply, frame};
 ghost use Rattle.file.specs.Words.{wordsOf};
 ghost use Rattle.file.specs.Shown.{exprReply, restOf};
@@ -21,23 +22,78 @@ pub struct Reading {
     pub count: usize,
 }
 
-// The first of the replies 1 to 4 that a header gets, or 0.
-pub fn header_reply(s: &[u8], version: u8, limit: usize) -> u8
-    ensures { λ r. ⌜ r ≡ headerReply version limit (now (s .entry)) ⌝ }
+// Room for the inputs of any version.
+pub const INPUT_ROOM: usize = 64;
+
+// A file's version, its first byte; 0 where there is none.
+pub fn version_of(s: &[u8]) -> u8
+    ensures { λ r. ⌜ r ≡ headerVersion (now (s .entry)) ⌝ }
 {
-    if s.len() < 6 {
+    if s.len() == 0 {
+        return 0;
+    }
+    s[0]
+}
+
+// The bytes of a version's header, and of a file's.
+pub fn head_size(version: u8) -> usize
+    ensures { λ r. ⌜ (r ≡ headSize version) × (r < 65536) ⌝ }
+{
+    6
+}
+
+pub fn header_size(s: &[u8]) -> usize
+    ensures { λ r. ⌜ r ≡ headerSize (now (s .entry)) ⌝ }
+{
+    head_size(version_of(s))
+}
+
+// The most inputs that a file's version allows.
+fn inputs_limit(s: &[u8]) -> usize
+    ensures { λ r. ⌜ r ≡ inputsLimit (headerVersion (now (s .entry))) ⌝ }
+{
+    INPUT_ROOM
+}
+
+// What a header says: the file's length, the number of its inputs, and that of its records.
+fn total_of(s: &[u8]) -> usize
+    requires { ⌜ headerSize (now s) ≤ length (now s) ⌝ }
+    ensures { λ r. ⌜ r ≡ headerTotal (now (s .entry)) ⌝ }
+{
+    number::two_at(s, 1)
+}
+
+pub fn inputs_of(s: &[u8]) -> usize
+    requires { ⌜ headerSize (now s) ≤ length (now s) ⌝ }
+    ensures { λ r. ⌜ r ≡ headerInputs (now (s .entry)) ⌝ }
+{
+    number::wide(s[3])
+}
+
+pub fn count_of(s: &[u8]) -> usize
+    requires { ⌜ headerSize (now s) ≤ length (now s) ⌝ }
+    ensures { λ r. ⌜ r ≡ headerCount (now (s .entry)) ⌝ }
+{
+    number::two_at(s, 4)
+}
+
+// The first of the replies 1 to 4 that a header gets, or 0; `known` says whether its version is.
+pub fn header_reply(s: &[u8], known: bool, limit: usize) -> u8
+    ensures { λ r. ⌜ r ≡ headerReply (λ version. known) limit (now (s .entry)) ⌝ }
+{
+    if s.len() < header_size(s) {
         return 1;
     }
-    if s[0] != version {
+    if !known {
         return 2;
     }
-    if number::two_at(s, 1) != s.len() {
+    if total_of(s) != s.len() {
         return 3;
     }
-    if 64 < s[3] {
+    if inputs_limit(s) < inputs_of(s) {
         return 4;
     }
-    if limit < number::two_at(s, 4) {
+    if limit < count_of(s) {
         return 4;
     }
     0

@@ -26,13 +26,17 @@ use Rattle.kadvitul.specs.Interface.{RunReply, RunOffset, RunVerdict, Ru
 use Rattle.kadvitul.specs.Interface.{JudgeReply, JudgeOffset, JudgeVerdict, JudgePlace, judgeNumber}
 use Rattle.kadvitul.specs.Interface.{TraceReply, TraceOffset, TraceLength, traceNumber}
 use Rattle.kadvitul.specs.Interface.{SliceReply, SliceOffset, SliceLength, SliceMask, SliceInputs, sliceNumber}
+use Rattle.file.specs.File.{headSize, headerInputs, headerCount, inputsLimit, inputRoom, header}
+use Rattle.table.specs.Table.{isTable}
+use Rattle.trace.specs.Trace.{isTrace, traceVersion}
 
 -- m3; any other length than 4 × S is 11; 8 comes before it
 runs : (runBytes smallRule 1 (0x00 ∷ 0x00 ∷ 0x00 ∷ 0x01 ∷ []) ≡ unsafeAt 8 1) × (runBytes smallRule 1 (0x00 ∷ []) ≡ refusal 11 0)
     × (runBytes smallRule 1 (0x00 ∷ 0x00 ∷ 0x00 ∷ []) ≡ refusal 11 0)
     × (runBytes smallRule 1 (0x00 ∷ 0x00 ∷ 0x00 ∷ 0x01 ∷ 0x00 ∷ []) ≡ refusal 11 0)
     × (runBytes smallRule 256 [] ≡ refusal 8 0) × (runBytes [] 256 [] ≡ refusal 1 0)
-unfolding runBytes readTable readFile headerReply records recordOf frame instr parseFrom readToken operator fits run value unary binary
+unfolding runBytes readTable isTable readFile headerReply headSize headerInputs headerCount inputsLimit inputRoom records recordOf frame
+    instr parseFrom readToken operator fits run value unary binary
 runs = (refl, refl, refl, refl, refl, refl)
 
 -- m12
@@ -41,7 +45,8 @@ judges : (judgeBytes Judged.example (0x00 ∷ 0x00 ∷ 0x00 ∷ 0x05 ∷ []) ≡
     × (judgeBytes Judged.example (0x0A ∷ []) ≡ Judging.refusal 11 0)
     × (judgeBytes Judged.example (0x00 ∷ 0x00 ∷ 0x00 ∷ 0x05 ∷ 0x00 ∷ []) ≡ Judging.refusal 11 0)
     × (judgeBytes Judged.example (0x00 ∷ 0x00 ∷ 0x00 ∷ 0x05 ∷ 0x00 ∷ 0x00 ∷ 0x00 ∷ 0x05 ∷ []) ≡ Judging.refusal 11 0)
-unfolding judgeBytes readTrace readFile headerReply records recordOf frame stmt parseFrom readToken operator fits judge value unary binary
+unfolding judgeBytes readTrace isTrace traceVersion readFile headerReply headSize headerInputs headerCount inputsLimit inputRoom records
+    recordOf frame stmt parseFrom readToken operator fits judge value unary binary
 judges = (refl, refl, refl, refl, refl)
 
 -- ---- each number by its name
@@ -56,7 +61,8 @@ run-numbers : (map (λ w. runNumber w (runBytes smallRule 3 (0x00 ∷ 0x00 ∷ 0
     ≡ 0 ∷ 0 ∷ 1 ∷ 13 ∷ 2 ∷ [])
     × (map (λ w. runNumber w (runBytes cutTable 3 [])) (RunReply ∷ RunOffset ∷ RunVerdict ∷ RunPlace ∷ RunBackJumps ∷ []) ≡ 5 ∷ 6 ∷ 0 ∷ 0
     ∷ 0 ∷ [])
-unfolding runBytes readTable readFile headerReply records recordOf frame instr parseFrom readToken operator fits run value unary binary
+unfolding runBytes readTable isTable readFile headerReply headSize headerInputs headerCount inputsLimit inputRoom records recordOf frame
+    instr parseFrom readToken operator fits run value unary binary
 run-numbers = (refl, refl)
 
 -- of three inputs: (7) assume s0; (9) assert s2; (11) assert s1
@@ -87,14 +93,16 @@ judge-numbers : (map (λ w. judgeNumber w (judgeBytes threeTests (0x00 ∷ 0x00 
     (JudgeReply ∷ JudgeOffset ∷ JudgeVerdict ∷ JudgePlace ∷ []) ≡ 0 ∷ 0 ∷ 1 ∷ 11 ∷ [])
     × (map (λ w. judgeNumber w (judgeBytes brokenTrace [])) (JudgeReply ∷ JudgeOffset ∷ JudgeVerdict ∷ JudgePlace ∷ []) ≡ 7 ∷ 14 ∷ 0 ∷ 0
     ∷ [])
-unfolding judgeBytes readTrace readFile headerReply records recordOf frame stmt parseFrom readToken operator fits judge value unary binary
+unfolding judgeBytes readTrace isTrace traceVersion readFile headerReply headSize headerInputs headerCount inputsLimit inputRoom records
+    recordOf frame stmt parseFrom readToken operator fits judge value unary binary
 judge-numbers = (refl, refl)
 
 -- m5; and a room of 155 bytes
 trace-numbers : (map (λ w. traceNumber w (traceAnswer smallRule 0 200)) (TraceReply ∷ TraceOffset ∷ TraceLength ∷ []) ≡ 0 ∷ 0 ∷ 156 ∷ [])
     × (map (λ w. traceNumber w (traceAnswer smallRule 0 155)) (TraceReply ∷ TraceOffset ∷ TraceLength ∷ []) ≡ 10 ∷ 0 ∷ 0 ∷ [])
     × (map (λ w. traceNumber w (traceAnswer cutTable 0 200)) (TraceReply ∷ TraceOffset ∷ TraceLength ∷ []) ≡ 5 ∷ 6 ∷ 0 ∷ [])
-unfolding traceAnswer readTable readFile headerReply records recordOf frame instr parseFrom readToken operator fits unwind places encode
+unfolding traceAnswer traceVersion readTable isTable readFile headerReply headSize headerInputs headerCount inputsLimit inputRoom records
+    recordOf frame instr parseFrom readToken operator fits unwind places encode header
 trace-numbers = (refl, refl, refl)
 
 -- two Asserts are kept: 22 bytes that read s1 and s2
@@ -102,5 +110,6 @@ slice-numbers : (map (λ w. sliceNumber w (sliceAnswer assumedLast 22))
     (SliceReply ∷ SliceOffset ∷ SliceLength ∷ SliceMask ∷ SliceInputs ∷ []) ≡ 0 ∷ 0 ∷ 22 ∷ 6 ∷ 2 ∷ [])
     × (map (λ w. sliceNumber w (sliceAnswer brokenTrace 22)) (SliceReply ∷ SliceOffset ∷ SliceLength ∷ SliceMask ∷ SliceInputs ∷ []) ≡ 7
     ∷ 14 ∷ 0 ∷ 0 ∷ 0 ∷ [])
-unfolding sliceAnswer readTrace readFile headerReply records recordOf frame stmt parseFrom readToken operator fits slice encode ones
+unfolding sliceAnswer readTrace isTrace traceVersion readFile headerReply headSize headerInputs headerCount inputsLimit inputRoom records
+    recordOf frame stmt parseFrom readToken operator fits slice encode header ones
 slice-numbers = (refl, refl)

@@ -23,16 +23,19 @@ use Rattle.slice.specs.Answer.{Sliced, sliceAnswer}
 
 abbrev pub answeredBytes : (K : ℕ) (valuation : List ℕ) → Input Instr → Answer
 answeredBytes K valuation (Refused reply offset) = refusal reply offset
-answeredBytes K valuation (Accepted S is) =
-    cond (leb K 255) (cond (eqb (length valuation) (4 * S)) (answerOf (run is K (wordsOf S valuation))) (refusal 11 0)) (refusal 8 0)
+answeredBytes K valuation (Accepted head is) =
+    cond (leb K 255)
+    (cond (eqb (length valuation) (4 * head .inputs)) (answerOf (run is K (wordsOf (head .inputs) valuation))) (refusal 11 0))
+    (refusal 8 0)
 
 unfoldable pub runBytes : (table : List ℕ) (K : ℕ) (valuation : List ℕ) → Answer
 runBytes table K valuation = answeredBytes K valuation (readTable table)
 
 abbrev pub judgedBytes : (valuation : List ℕ) → Input Stmt → Judged.Answer
 judgedBytes valuation (Refused reply offset) = Judging.refusal reply offset
-judgedBytes valuation (Accepted S ts) =
-    cond (eqb (length valuation) (4 * S)) (Judging.answerOf (judge ts (envOf (wordsOf S valuation)))) (Judging.refusal 11 0)
+judgedBytes valuation (Accepted head ts) =
+    cond (eqb (length valuation) (4 * head .inputs)) (Judging.answerOf (judge ts (envOf (wordsOf (head .inputs) valuation))))
+    (Judging.refusal 11 0)
 
 unfoldable pub judgeBytes : (trace valuation : List ℕ) → Judged.Answer
 judgeBytes trace valuation = judgedBytes valuation (readTrace trace)

@@ -1,5 +1,5 @@
 -- A valuation of bytes is the valuation of its words: in the definitions, and in the code that stores them.
-use Prim.Native.Nat.{ℕ, suc, _*_, _≤_}
+use Prim.Native.Nat.{ℕ, suc, _+_, _*_, _≤_}
 use native.Mathlib.Omega.{arith}
 use native.Mathlib.Decide.{decLt}
 use mathlib.Core.Path.{_≡_, refl, sym, ap, _∙_}
@@ -10,16 +10,16 @@ use lib.ListN.{length, take, replicate, length-replicate}
 use lib.Seq.{length-take-le, length-sets, sets}
 use lib.Dec.{eqb, leb}
 use borrow.Author.Tests.{eqb-true, eqb-false, eq-eqb, ne-eqb}
-use Rattle.file.specs.File.{headerInputs, Input, Accepted, Refused}
-use Rattle.file.specs.FileLaws.{header-is, file-is}
+use Rattle.file.specs.File.{inputRoom, headerVersion, headerInputs, Input, Accepted, Refused}
+use Rattle.file.specs.FileLaws.{inputs-room, header-is, file-is}
 use Rattle.file.specs.Words.{wordsOf}
 use Rattle.file.specs.WordsLaws.{words-length, words-front}
-use Rattle.table.specs.Table.{Instr, instrs, readTable}
+use Rattle.table.specs.Table.{Instr, instrs, isTable, readTable}
 use Rattle.table.specs.TableLaws.{table-inputs}
 use Rattle.table.specs.Run.{run}
 use Rattle.table.specs.Answer.{refusal, answerOf, answered, runAnswer}
 use Rattle.expr.specs.Eval.{envOf}
-use Rattle.trace.specs.Trace.{Stmt, stmts, readTrace}
+use Rattle.trace.specs.Trace.{Stmt, stmts, isTrace, readTrace}
 use Rattle.trace.specs.TraceLaws.{trace-inputs}
 use Rattle.trace.specs.Judge.{judge}
 use Rattle.trace.specs.Answer as Judging
@@ -67,9 +67,9 @@ run-as-words s K valuation = go (readTable s) refl
   where
     go : (x : Input Instr) → readTable s ≡ x → answeredBytes K valuation x ≡ answered K (asWords (headerInputs s) valuation) x
     go (Refused r o) e = refl
-    go (Accepted S is) e =
-        ap (λ a. cond (leb K 255) a (refusal 8 0)) (as-answered S valuation (λ ws. answerOf (run is K ws)) (refusal 11 0))
-        ∙ ap (λ n. answered K (asWords n valuation) (Accepted S is)) (sym (table-inputs s S is e))
+    go (Accepted head is) e =
+        ap (λ a. cond (leb K 255) a (refusal 8 0)) (as-answered (head .inputs) valuation (λ ws. answerOf (run is K ws)) (refusal 11 0))
+        ∙ ap (λ n. answered K (asWords n valuation) (Accepted head is)) (sym (table-inputs s head is e))
 
 pub judge-as-words : (s valuation : List ℕ) → judgeBytes s valuation ≡ judgeAnswer s (asWords (headerInputs s) valuation)
 unfolding judgeAnswer judgeBytes
@@ -77,14 +77,14 @@ judge-as-words s valuation = go (readTrace s) refl
   where
     go : (x : Input Stmt) → readTrace s ≡ x → judgedBytes valuation x ≡ Judging.answered (asWords (headerInputs s) valuation) x
     go (Refused r o) e = refl
-    go (Accepted S ts) e =
-        as-answered S valuation (λ ws. Judging.answerOf (judge ts (envOf ws))) (Judging.refusal 11 0)
-        ∙ ap (λ n. Judging.answered (asWords n valuation) (Accepted S ts)) (sym (trace-inputs s S ts e))
+    go (Accepted head ts) e =
+        as-answered (head .inputs) valuation (λ ws. Judging.answerOf (judge ts (envOf ws))) (Judging.refusal 11 0)
+        ∙ ap (λ n. Judging.answered (asWords n valuation) (Accepted head ts)) (sym (trace-inputs s head ts e))
 
 -- ---- the words that the code stores
 
 module _ {valuation words : List ℕ} {count : ℕ} (d : Decoded valuation words count) where
-  same-words : {R : Type 0} (S : ℕ) → S ≤ 64 → (answer : List ℕ → R) (refused : R)
+  same-words : {R : Type 0} (S : ℕ) → S ≤ inputRoom → (answer : List ℕ → R) (refused : R)
       → cond (eqb (length (take count words)) S) (answer (take count words)) refused ≡ cond (eqb (length valuation) (4 * S))
       (answer (wordsOf S valuation)) refused
   same-words {R = R} S few answer refused = go (eqb count S) refl
@@ -93,7 +93,7 @@ module _ {valuation words : List ℕ} {count : ℕ} (d : Decoded valuation words
       long = length-take-le count words (omega (arith, d .room, d .most))
 
       other : (count ≡ S → ⊥) → length valuation ≡ 4 * S → ⊥
-      other n e = elim (decLt 64 count) [ yes h ↦ d .none h S few e | no h ↦ n (omega (arith, d .whole (omega arith) .0)) ]
+      other n e = elim (decLt inputRoom count) [ yes h ↦ d .none h S few e | no h ↦ n (omega (arith, d .whole (omega arith) .0)) ]
 
       go : (b : Bool) → eqb count S ≡ b
           → cond (eqb (length (take count words)) S) (answer (take count words)) refused ≡ cond (eqb (length valuation) (4 * S))
@@ -115,10 +115,12 @@ module _ {valuation words : List ℕ} {count : ℕ} (d : Decoded valuation words
     where
       go : (x : Input Instr) → readTable s ≡ x → answered K (take count words) x ≡ answeredBytes K valuation x
       go (Refused r o) e = refl
-      go (Accepted S is) e =
-          let f = file-is 1 1024 instrs s S is e in
+      go (Accepted head is) e =
+          let f = file-is isTable 1024 instrs s head is e in
+          let g = header-is isTable 1024 s (f .header) in
           ap (λ a. cond (leb K 255) a (refusal 8 0))
-          (same-words S (omega (arith, header-is 1 1024 s (f .header) .inputs, f .inputs)) (λ ws. answerOf (run is K ws)) (refusal 11 0))
+          (same-words (head .inputs) (omega (arith, g .inputs, f .inputs, inputs-room (headerVersion s))) (λ ws. answerOf (run is K ws))
+          (refusal 11 0))
 
   pub judge-words : (s : List ℕ) → judgeAnswer s (take count words) ≡ judgeBytes s valuation
   unfolding judgeAnswer judgeBytes readTrace
@@ -126,18 +128,19 @@ module _ {valuation words : List ℕ} {count : ℕ} (d : Decoded valuation words
     where
       go : (x : Input Stmt) → readTrace s ≡ x → Judging.answered (take count words) x ≡ judgedBytes valuation x
       go (Refused r o) e = refl
-      go (Accepted S ts) e =
-          let f = file-is 129 4096 stmts s S ts e in
-          same-words S (omega (arith, header-is 129 4096 s (f .header) .inputs, f .inputs)) (λ ws. Judging.answerOf (judge ts (envOf ws)))
-          (Judging.refusal 11 0)
+      go (Accepted head ts) e =
+          let f = file-is isTrace 4096 stmts s head ts e in
+          let g = header-is isTrace 4096 s (f .header) in
+          same-words (head .inputs) (omega (arith, g .inputs, f .inputs, inputs-room (headerVersion s)))
+          (λ ws. Judging.answerOf (judge ts (envOf ws))) (Judging.refusal 11 0)
 
 -- what the code stores
-pub no-words : {valuation words : List ℕ} → length words ≡ 65 → ((c : ℕ) → c ≤ 64 → length valuation ≡ 4 * c → ⊥)
-    → Decoded valuation words 65
+pub no-words : {valuation words : List ℕ} → length words ≡ inputRoom + 1 → ((c : ℕ) → c ≤ inputRoom → length valuation ≡ 4 * c → ⊥)
+    → Decoded valuation words (inputRoom + 1)
 no-words h n = record { room = h; most = omega arith; whole = λ l. absurd (omega arith); none = λ l. n }
 
-pub all-words : {valuation words : List ℕ} (xs : List ℕ) → length xs ≡ 65 → (c : ℕ) → words ≡ sets xs 0 (wordsOf c valuation) → c ≤ 64
-    → length valuation ≡ 4 * c
+pub all-words : {valuation words : List ℕ} (xs : List ℕ) → length xs ≡ inputRoom + 1 → (c : ℕ) → words ≡ sets xs 0 (wordsOf c valuation)
+    → c ≤ inputRoom → length valuation ≡ 4 * c
     → Decoded valuation words c
 all-words {valuation} xs h c e l v = record {
   room = ap length e ∙ length-sets xs 0 (wordsOf c valuation) ∙ h;

@@ -1,7 +1,9 @@
 // The C interface: one number of an answer for each call. `include/kadvitul.h` declares it.
+use file::INPUT_ROOM;
 ghost use mathlib.Core.Path.{_≡_};
-ghost use Prim.Native.Nat.{_/_, _*_};
+ghost use Prim.Native.Nat.{_+_, _/_, _*_};
 ghost use lib.ListN.{length};
+ghost use Rattle.file.specs.File.{inputRoom};
 ghost use Rattle.kadvitul.specs.Interface.{runBytes, judgeBytes, VersionGives, RunGives, JudgeGives, TraceGives, SliceGives};
 ghost use Rattle.kadvitul.specs.Interface.{RunReply, RunOffset, RunVerdict, RunPlace, RunBackJumps};
 ghost use Rattle.kadvitul.specs.Interface.{JudgeReply, JudgeOffset, JudgeVerdict, JudgePlace};
@@ -9,19 +11,22 @@ ghost use Rattle.kadvitul.specs.Interface.{TraceReply, TraceOffset, Trac
 ghost use Rattle.kadvitul.specs.Interface.{SliceReply, SliceOffset, SliceLength, SliceMask, SliceInputs};
 ghost use Rattle.kadvitul.specs.Shown.{Decoded};
 
-// The words of a valuation, and how many there are. Bytes that are no whole number of words, or of more than 64, count as 65 words, which
-// no file has.
+// One word more than any file has inputs.
+const WORD_ROOM: usize = INPUT_ROOM + 1;
+
+// The words of a valuation, and how many there are. Bytes that are no whole number of words, or of more than a file can have, count as one
+// word more than that.
 fn words_in(valuation: &[u8], words: &mut [u32]) -> usize
-    requires { ⌜ length (now words) ≡ 65 ⌝ }
+    requires { ⌜ length (now words) ≡ inputRoom + 1 ⌝ }
     ensures { λ r. ⌜ Decoded (now (valuation .entry)) (now (words .exit)) r ⌝ }
 {
     let len = valuation.len();
     let count = len / 4;
     if len != 4 * count {
-        return 65;
+        return WORD_ROOM;
     }
-    if 64 < count {
-        return 65;
+    if INPUT_ROOM < count {
+        return WORD_ROOM;
     }
     file::decode(valuation, count, words);
     count
@@ -30,7 +35,7 @@ fn words_in(valuation: &[u8], words: &mut [u32]) -> usize
 fn run_bytes(rule: &[u8], bound: u64, valuation: &[u8]) -> table::Answer
     ensures { λ r. ⌜ r ≡ runBytes (now (rule .entry)) bound (now (valuation .entry)) ⌝ }
 {
-    let mut words: [u32; 65] = [0; 65];
+    let mut words: [u32; WORD_ROOM] = [0; WORD_ROOM];
     let count = words_in(valuation, &mut words);
     table::run(rule, bound, &words[..count])
 }
@@ -38,7 +43,7 @@ fn run_bytes(rule: &[u8], bound: u64, valuation: &[u8]) -> table::Answer
 fn judge_bytes(trace: &[u8], valuation: &[u8]) -> trace::Answer
     ensures { λ r. ⌜ r ≡ judgeBytes (now (trace .entry)) (now (valuation .entry)) ⌝ }
 {
-    let mut words: [u32; 65] = [0; 65];
+    let mut words: [u32; WORD_ROOM] = [0; WORD_ROOM];
     let count = words_in(valuation, &mut words);
     trace::judge(trace, &words[..count])
 }

@@ -29,6 +29,9 @@ use Rattle.show.specs.TextLaws.{prints-refusal, prints-too-long}
 use Rattle.show.specs.Answer.{showAnswer}
 use Rattle.show.specs.AnswerLaws.{show-done}
 use Rattle.print_slice.specs.Buffers.{Decides, HoldsEvery}
+use Rattle.file.specs.File.{headSize, headerInputs, headerCount, inputsLimit, inputRoom, header}
+use Rattle.table.specs.Table.{isTable}
+use Rattle.trace.specs.Trace.{isTrace, traceVersion}
 
 -- ---- what is read
 
@@ -56,21 +59,22 @@ module _ (m : ℕ) (e : m ≡ 65529) where
   table-length = omega (arith, e, length-replicate {A = ℕ} m 0)
 
   -- its length is the field's: it is refused for its inputs
-  right : headerReply 1 1024 (table m) ≡ 4
-  unfolding headerReply
+  right : headerReply isTable 1024 (table m) ≡ 4
+  unfolding headerReply isTable headSize headerInputs headerCount inputsLimit inputRoom
   right =
       ap (λ x. cond x (cond (eqb 65535 (length (table m))) 4 3) 1) (le-leb 6 (length (table m)) (omega (arith, table-length)))
       ∙ ap (λ x. cond x 4 3) (eq-eqb 65535 (length (table m)) (sym table-length))
 
   whole : printed (input m) ≡ refusalText 4 0
   unfolding readTable
-  whole = prints-refusal 0 (table m) 4 0 (file-refused 1 1024 instrs (table m) 4 right (λ z. omega arith))
+  whole = prints-refusal 0 (table m) 4 0 (file-refused isTable 1024 instrs (table m) 4 right (λ z. omega arith))
 
   -- with a byte more it is too long
   more-bytes : All Byte (input m ++ 0 ∷ [])
   more-bytes = all-append Byte (input m) (0 ∷ []) (input-bytes m) (omega arith, tt)
 
   longer : printed (input m ++ 0 ∷ []) ≡ refusalText 3 0
+  unfolding isTable
   longer = prints-too-long 0 (table m ++ 0 ∷ []) (more-bytes .1) (omega (arith, table-length, length-append (table m) (0 ∷ [])))
 
   -- and no 65,536 bytes tell one from the other
@@ -103,9 +107,9 @@ many-bytes : All Byte manyAsserts
 many-bytes = (omega arith, (omega arith, (omega arith, (omega arith, (omega arith, (omega arith, (omega arith, asserts-bytes 1024)))))))
 
 many-printed : length (printed manyAsserts) ≡ 75686
-unfolding printed decimal traceAnswer sliceAnswer readTable readFile headerReply records recordOf frame instr parseFrom readToken operator
-    fits unwind places encode
-    readTrace stmt slice
+unfolding printed decimal traceAnswer traceVersion sliceAnswer readTable isTable readFile headerReply headSize headerInputs headerCount
+    inputsLimit inputRoom records recordOf frame instr parseFrom readToken operator fits unwind places encode header readTrace isTrace
+    stmt slice
 many-printed = refl
 
 pub long-text : (m : ℕ) → HoldsEvery m → 75686 ≤ m

@@ -14,6 +14,7 @@ use Rattle.expr.specs.Expr.{below, parse}
 use Rattle.expr.specs.Shown.{turned, goes, isWhole, tokensOf, sizeOf, Stands}
 use Rattle.expr.proofs.Steps.{Constant, Reads, Operator, constant-stands, symbol-stands, operator-stands}
 use Rattle.expr.proofs.Rests.{Rest, tokens, rest-start, turn, rest-end}
+use Rattle.trace.specs.Shown.{symbolRoom}
 use Rattle.write.specs.Splice.{Wrote}
 use Rattle.write.specs.SpliceLaws.{wrote-as, Ahead, ahead-start, ahead-step, ahead-end}
 use Rattle.write.specs.Ascii.{ascii}
@@ -33,16 +34,16 @@ module _ {e : List ℕ} {i n : ℕ} {bs : List ℕ} (k : Is e i n bs) where
       → (n ≡ sizeOf Trace (readToken Trace (drop i e))) × Wrote o at (readText (readToken Trace (drop i e))) p to × (to ≤ at + 6 * n)
   token-wrote w l = (k .size, wrote-as (sym (k .text)) w, l)
 
-module _ (e : List ℕ) (i : ℕ) (h : i < length e) (st : Stands Trace 4160 e i) where
+module _ (e : List ℕ) (i : ℕ) (h : i < length e) (st : Stands Trace symbolRoom e i) where
   pub some-size : 1 ≤ sizeOf Trace (readToken Trace (drop i e))
   some-size = go (readToken Trace (drop i e)) (st .1)
     where
-      go : (o : Option Token) → goes (turned Trace (below 4160) (st .0) o) ≡ true → 1 ≤ sizeOf Trace o
+      go : (o : Option Token) → goes (turned Trace (below symbolRoom) (st .0) o) ≡ true → 1 ≤ sizeOf Trace o
       go none q = absurd (let z : _≡_ {A = ℕ} 0 1 = cc in omega arith)
       go (some t) q = omega arith
 
   pub constant : getD e i 0 ≡ 1 → Constant Trace (st .0) e i
-  constant c = constant-stands Trace (below 4160) (st .0) e i h (st .1) c
+  constant c = constant-stands Trace (below symbolRoom) (st .0) e i h (st .1) c
 
   pub constant-is : getD e i 0 ≡ 1 → (w : ℕ) → w ≡ numberOf 4 (drop (i + 1) e) → Is e i 5 (decimal w)
   constant-is c w q = record {
@@ -50,8 +51,8 @@ module _ (e : List ℕ) (i : ℕ) (h : i < length e) (st : Stands Trace 4160 e i
     text = ap readText (constant c .is) ∙ ap (λ n. readText (some (Const n))) (sym q);
   }
 
-  pub symbol : getD e i 0 ≡ 3 → Reads Trace (below 4160) (st .0) e i
-  symbol c = symbol-stands Trace (below 4160) (st .0) e i h (st .1) c
+  pub symbol : getD e i 0 ≡ 3 → Reads Trace (below symbolRoom) (st .0) e i
+  symbol c = symbol-stands Trace (below symbolRoom) (st .0) e i h (st .1) c
 
   pub symbol-is : getD e i 0 ≡ 3 → (s : ℕ) → s ≡ numberOf 2 (drop (i + 1) e) → Is e i 3 (ascii "s" ++ decimal s)
   symbol-is c s q = record {
@@ -61,7 +62,7 @@ module _ (e : List ℕ) (i : ℕ) (h : i < length e) (st : Stands Trace 4160 e i
 
   module _ (a : getD e i 0 ≡ 1 → ⊥) (b : getD e i 0 ≡ 3 → ⊥) where
     pub operates : Operator Trace (st .0) e i
-    operates = operator-stands Trace (below 4160) (st .0) e i h (st .1) a b
+    operates = operator-stands Trace (below symbolRoom) (st .0) e i h (st .1) a b
 
     pub operator-text : Is e i 1 (nameOf (getD e i 0))
     unfolding nameOf
@@ -73,12 +74,12 @@ module _ (e : List ℕ) (i : ℕ) (h : i < length e) (st : Stands Trace 4160 e i
 -- ---- the loop
 
 pub record Putting (e out₀ : List ℕ) (at : ℕ) (out : List ℕ) (i to : ℕ) : Type 0 where
-  pub rest : Rest Trace 4160 e i
-  pub wrote : Ahead out to (exprText (tokens rest)) out₀ at (exprText (tokensOf (parse Trace (below 4160) e)))
+  pub rest : Rest Trace symbolRoom e i
+  pub wrote : Ahead out to (exprText (tokens rest)) out₀ at (exprText (tokensOf (parse Trace (below symbolRoom) e)))
   pub little : to ≤ at + 6 * i
 
-pub putting-start : (e out : List ℕ) (at : ℕ) → isWhole (parse Trace (below 4160) e) ≡ true → Putting e out at out 0 at
-putting-start e out at h = record { rest = rest-start Trace 4160 e h; wrote = ahead-start _ _ _; little = omega arith }
+pub putting-start : (e out : List ℕ) (at : ℕ) → isWhole (parse Trace (below symbolRoom) e) ≡ true → Putting e out at out 0 at
+putting-start e out at h = record { rest = rest-start Trace symbolRoom e h; wrote = ahead-start _ _ _; little = omega arith }
 
 module _ {e out₀ : List ℕ} {at : ℕ} {out : List ℕ} {i to : ℕ} (v : Putting e out₀ at out i to) where
   module _ (h : i < length e) where
@@ -105,5 +106,5 @@ module _ {e out₀ : List ℕ} {at : ℕ} {out : List ℕ} {i to : ℕ} (v : Put
           };
         }
 
-  pub put-all : length e ≤ i → Wrote out₀ at (exprText (tokensOf (parse Trace (below 4160) e))) out to × (to ≤ at + 6 * length e)
+  pub put-all : length e ≤ i → Wrote out₀ at (exprText (tokensOf (parse Trace (below symbolRoom) e))) out to × (to ≤ at + 6 * length e)
   put-all h = (ahead-end (v .wrote) (ap exprText (rest-end (v .rest) h)), omega (arith, v .little, v .rest .inside))

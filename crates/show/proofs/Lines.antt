@@ -14,13 +14,13 @@ use Rattle.expr.specs.Lists.{All}
 use Rattle.expr.specs.Number.{Byte, numberOf}
 use Rattle.expr.specs.Expr.{below, parse}
 use Rattle.expr.specs.Shown.{isWhole, tokensOf}
-use Rattle.file.specs.File.{headerInputs, headerCount, Good, frame, Read, Input, Accepted, Refused}
+use Rattle.file.specs.File.{inputRoom, headerVersion, headerSize, headerInputs, headerCount, afterHeader, Good, frame, Read, Input, Accepted, Refused}
 use Rattle.file.specs.Shown.{isGood, isAccepted, listed, kindOf}
-use Rattle.file.specs.FileLaws.{header-is, file-is, framed, record-good, Next, next-record, records-chain}
+use Rattle.file.specs.FileLaws.{inputs-room, head-long, header-is, file-is, framed, record-good, Next, next-record, records-chain}
 use Rattle.file.specs.ReadingLaws.{short}
-use Rattle.trace.specs.Trace.{Stmt, Seen, atFirst, see, stmt, stmtsFrom, stmts, readTrace}
-use Rattle.trace.specs.TraceLaws.{Wider, record-wider, wider-after}
-use Rattle.trace.specs.Shown.{loose, held, exprStart, exprPart, exprOf}
+use Rattle.trace.specs.Trace.{Stmt, Seen, atFirst, see, stmt, stmtsFrom, stmts, isTrace, readTrace}
+use Rattle.trace.specs.TraceLaws.{symbol-room, Wider, record-wider, wider-after}
+use Rattle.trace.specs.Shown.{symbolRoom, loose, held, exprStart, exprPart, exprOf}
 use Rattle.file.specs.RecordLaws.{rest-length}
 use Rattle.trace.proofs.Held.{Held, held-at}
 use Rattle.trace.proofs.Moves.{expr-whole}
@@ -33,12 +33,12 @@ use Rattle.show.specs.Shown.{lineIn}
 
 -- ---- one record
 
-module _ {s : List ℕ} {at : ℕ} (h : Held 4160 loose s at) {e : List ℕ} (q : e ≡ exprPart s at) where
-  pub expr-is-whole : isWhole (parse Trace (below 4160) e) ≡ true
-  expr-is-whole = ap isWhole (expr-whole h 4160 refl q)
+module _ {s : List ℕ} {at : ℕ} (h : Held symbolRoom loose s at) {e : List ℕ} (q : e ≡ exprPart s at) where
+  pub expr-is-whole : isWhole (parse Trace (below symbolRoom) e) ≡ true
+  expr-is-whole = ap isWhole (expr-whole h symbolRoom refl q)
 
-  tokens-are : tokensOf (parse Trace (below 4160) e) ≡ exprOf (h .statement)
-  tokens-are = ap tokensOf (expr-whole h 4160 refl q)
+  tokens-are : tokensOf (parse Trace (below symbolRoom) e) ≡ exprOf (h .statement)
+  tokens-are = ap tokensOf (expr-whole h symbolRoom refl q)
 
   expr-length : exprStart (getD s (at + 2) 0) + length e ≡ 2 + numberOf 2 (drop at s)
   expr-length = omega (arith, ap length q, rest-length s at (exprStart (getD s (at + 2) 0)) (h .whole) (h .starts))
@@ -48,7 +48,7 @@ module _ {s : List ℕ} {at : ℕ} (h : Held 4160 loose s at) {e : List ℕ} (q 
     assign-length = let z : exprStart (getD s (at + 2) 0) ≡ 7 = rw (eq-eqb (getD s (at + 2) 0) 1 k) in omega (arith, expr-length)
 
     pub assign-line : (p y : ℕ) → p ≡ numberOf 2 (drop (at + 3) s) → y ≡ numberOf 2 (drop (at + 5) s)
-        → decimal p ++ ascii " assign s" ++ decimal y ++ exprText (tokensOf (parse Trace (below 4160) e)) ++ ascii "\n"
+        → decimal p ++ ascii " assign s" ++ decimal y ++ exprText (tokensOf (parse Trace (below symbolRoom) e)) ++ ascii "\n"
         ≡ lineIn (held (drop at s))
     assign-line p y a b =
         ap (λ t. decimal p ++ ascii " assign s" ++ decimal y ++ exprText t ++ ascii "\n") tokens-are
@@ -60,11 +60,11 @@ module _ {s : List ℕ} {at : ℕ} (h : Held 4160 loose s at) {e : List ℕ} (q 
     test-length = let z : exprStart (getD s (at + 2) 0) ≡ 5 = rw (ne-eqb (getD s (at + 2) 0) 1 k) in omega (arith, expr-length)
 
     pub test-line : (p : ℕ) → p ≡ numberOf 2 (drop (at + 3) s)
-        → decimal p ++ (ascii " " ++ ascii (kindName (kindOf (getD s (at + 2) 0)))) ++ exprText (tokensOf (parse Trace (below 4160) e))
+        → decimal p ++ (ascii " " ++ ascii (kindName (kindOf (getD s (at + 2) 0)))) ++ exprText (tokensOf (parse Trace (below symbolRoom) e))
         ++ ascii "\n" ≡ lineIn (held (drop at s))
     test-line p a =
         let n = ascii (kindName (kindOf (getD s (at + 2) 0))) in
-        ap (λ t. t ++ exprText (tokensOf (parse Trace (below 4160) e)) ++ ascii "\n") (sym (append-snoc (decimal p) 32 n))
+        ap (λ t. t ++ exprText (tokensOf (parse Trace (below symbolRoom) e)) ++ ascii "\n") (sym (append-snoc (decimal p) 32 n))
         ∙ ap₂ (λ p t. decimal p ++ ascii " " ++ n ++ exprText t ++ ascii "\n") a tokens-are
         ∙ sym (ap lineIn (h .is ∙ ap Good (h .tests k .0)))
 
@@ -83,7 +83,7 @@ pub record Listing (s : List ℕ) (n : ℕ) (out₀ : List ℕ) (to : ℕ) (out 
   pub S : ℕ
   pub σ : Seen
   pub left : List Stmt
-  pub wide : Wider (S + 4096) σ 4160 loose
+  pub wide : Wider (S + 4096) σ symbolRoom loose
   pub read : stmtsFrom S (n - k) σ (drop at s) ≡ Read left
   pub wrote : Ahead out next (stmtLines left) out₀ to (stmtLines (listed (readTrace s)))
   pub inside : at ≤ length s
@@ -91,31 +91,33 @@ pub record Listing (s : List ℕ) (n : ℕ) (out₀ : List ℕ) (to : ℕ) (out 
   pub count : n ≤ 4096
   pub little : next ≤ 6 * at
 
+-- with the code's own size of the header
 pub listing-start : (s out : List ℕ) (n to : ℕ) → All Byte s → isAccepted (readTrace s) ≡ true → n ≡ headerCount s → to ≤ 36
-    → Listing s n out to out 0 6 to
+    → {at : ℕ} → at ≡ headerSize s → Listing s n out to out 0 at to
 unfolding readTrace
-listing-start s out n to o h q l = go (readTrace s) refl h
+listing-start s out n to o h q l {at} front = subst (λ at. Listing s n out to out 0 at to) (sym front) (go (readTrace s) refl h)
   where
-    go : (x : Input Stmt) → readTrace s ≡ x → isAccepted x ≡ true → Listing s n out to out 0 6 to
-    go (Accepted S ts) e h =
-        let f = file-is 129 4096 stmts s S ts e in
-        let g = header-is 129 4096 s (f .header) in
+    go : (x : Input Stmt) → readTrace s ≡ x → isAccepted x ≡ true → Listing s n out to out 0 (headerSize s) to
+    go (Accepted head ts) e h =
+        let f = file-is isTrace 4096 stmts s head ts e in
+        let g = header-is isTrace 4096 s (f .header) in
+        let S = head .inputs in
+        let few : head .inputs + 4096 ≤ symbolRoom = omega (arith, g .inputs, f .inputs, inputs-room (headerVersion s), symbol-room) in
         record {
           S = S;
           σ = atFirst S;
           left = ts;
           wide = record {
-            higher = omega (arith, g .inputs, f .inputs);
+            higher = few;
             lower = omega arith;
-            reads = λ x q. lt-ltb x 4160
-                (omega (arith, ltb-true x S q, g .inputs, f .inputs));
+            reads = λ x q. lt-ltb x symbolRoom (omega (arith, ltb-true x S q, few));
           };
-          read = ap (λ m. stmtsFrom S m (atFirst S) (drop 6 s)) (let z : n - 0 ≡ headerCount s = omega arith in z) ∙ f .read;
+          read = ap (λ m. stmtsFrom S m (atFirst S) (afterHeader s)) (let z : n - 0 ≡ headerCount s = omega arith in z) ∙ f .read;
           wrote = subst (λ xs. Ahead out to (stmtLines ts) out to (stmtLines xs)) (sym (ap listed e)) (ahead-start out to (stmtLines ts));
           inside = g .long;
-          few = omega (arith, short 129 4096 s o (f .header));
+          few = omega (arith, short isTrace 4096 s o (f .header));
           count = omega (arith, g .count);
-          little = omega arith;
+          little = omega (arith, head-long (headerVersion s));
         }
     go (Refused r f) e h = absurd (let z : _≡_ {A = ℕ} 0 1 = cc in omega arith)
 
@@ -127,13 +129,13 @@ module _ {s : List ℕ} {n : ℕ} {out₀ : List ℕ} {to : ℕ} {out : List ℕ
         (ap (λ m. stmtsFrom (v .S) m (v .σ) (drop at s)) (let z : suc (n - (k + 1)) ≡ n - k = omega arith in z) ∙ v .read)
 
     holds : held (drop at s) ≡ Good (following .head)
-    holds = record-wider (v .S + 4096) (v .σ) 4160 loose (v .wide) (drop at s) (following .head) (following .good)
+    holds = record-wider (v .S + 4096) (v .σ) symbolRoom loose (v .wide) (drop at s) (following .head) (following .good)
 
     pub listing-good : isGood (held (drop at s)) ≡ true
     listing-good = ap isGood holds
 
     pub listing-inside : at + (2 + numberOf 2 (drop at s)) ≤ length s
-    listing-inside = held-at 4160 loose s at listing-good .whole
+    listing-inside = held-at symbolRoom loose s at listing-good .whole
 
     -- the letters of the line can be counted
     pub listing-room : next + 6 * (2 + numberOf 2 (drop at s)) < 2 ^ 64
@@ -171,8 +173,8 @@ module _ {s : List ℕ} {n : ℕ} {out₀ : List ℕ} {to : ℕ} {out : List ℕ
 -- ---- the whole text
 
 pub record Told (s : List ℕ) : Type 0 where
-  pub long : 6 ≤ length s
-  pub inputs : headerInputs s ≤ 64
+  pub long : headerSize s ≤ length s
+  pub inputs : headerInputs s ≤ inputRoom
   pub count : headerCount s ≤ 4096
   pub text : firstLine (headerInputs s) (headerCount s) ++ stmtLines (listed (readTrace s)) ≡ traceText (readTrace s)
 
@@ -181,14 +183,15 @@ unfolding readTrace
 told s h = go (readTrace s) refl h
   where
     go : (x : Input Stmt) → readTrace s ≡ x → isAccepted x ≡ true → Told s
-    go (Accepted S ts) e h =
-        let f = file-is 129 4096 stmts s S ts e in
-        let g = header-is 129 4096 s (f .header) in
-        let k : length ts ≡ headerCount s = records-chain (stmt (S + 4096)) see s (λ σ a. Unit {0}) (λ σ l m a q. tt) (headerCount s) 6
-        (atFirst S) ts (f .read) .1 in
+    go (Accepted head ts) e h =
+        let f = file-is isTrace 4096 stmts s head ts e in
+        let g = header-is isTrace 4096 s (f .header) in
+        let S = head .inputs in
+        let k : length ts ≡ headerCount s = records-chain (stmt (S + 4096)) see s (λ σ a. Unit {0}) (λ σ l m a q. tt) (headerCount s)
+        (headerSize s) (atFirst S) ts (f .read) .1 in
         record {
           long = g .long;
-          inputs = g .inputs;
+          inputs = omega (arith, g .inputs, inputs-room (headerVersion s));
           count = g .count;
           text =
               ap (λ x. firstLine (headerInputs s) (headerCount s) ++ stmtLines (listed x)) e

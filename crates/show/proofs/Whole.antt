@@ -59,11 +59,11 @@ kept s o h l = go (readTrace s) refl h
   where
     go : (i : Input Stmt) → readTrace s ≡ i → isAccepted i ≡ true → Kept s
     go (Refused r at) q h = absurd (let z : _≡_ {A = ℕ} 0 1 = cc in omega arith)
-    go (Accepted S ts) q h =
-        let d : sliceAnswer s 65535 ≡ sliceOf S (slice ts) = slice-done s S ts 65535 q
-        (omega (arith, slice-fits S ts, ap length (encode-read s S ts o q))) in
+    go (Accepted head ts) q h =
+        let d : sliceAnswer s 65535 ≡ sliceOf head (slice ts) = slice-done s head ts 65535 q
+        (omega (arith, slice-fits head ts, ap length (encode-read s head ts o q))) in
         record {
-          accepted = ap (λ a. isAccepted (readTrace (a .bytes))) d ∙ ap isAccepted (slice-accepted s S ts o q);
+          accepted = ap (λ a. isAccepted (readTrace (a .bytes))) d ∙ ap isAccepted (slice-accepted s head ts o q);
           text = ap (λ a. traceText (readTrace (a .bytes))) d ∙ sym (ap slicedText d);
         }
 

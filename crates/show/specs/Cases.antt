@@ -17,6 +17,9 @@ use Rattle.write.specs.Ascii.{ascii}
 use Rattle.show.specs.Text.{exprText, printed}
 use Rattle.write.specs.Decimal.{decimal}
 use Rattle.show.specs.Answer.{refusal, showAnswer}
+use Rattle.file.specs.File.{headSize, headerInputs, headerCount, inputsLimit, inputRoom, header}
+use Rattle.table.specs.Table.{isTable}
+use Rattle.trace.specs.Trace.{isTrace, traceVersion}
 
 -- the whole output for K = 0 and the small rule
 pub small : printed (0 ∷ smallRule) ≡ ascii "inputs 1 statements 4\n"
@@ -24,9 +27,9 @@ pub small : printed (0 ∷ smallRule) ≡ ascii "inputs 1 statements 4\n"
     ++ ascii "0 assign s2 s1 0 ule s0 zero 3 s1 ite s1 ite\n"
     ++ ascii "2 assume s2 2 ule 1 zero 1 ite\n"
     ++ ascii "3 assert s2 3 ule 0 1 ite\n"
-unfolding printed decimal traceAnswer sliceAnswer readTable readFile headerReply records recordOf frame instr parseFrom readToken operator
-    fits unwind places encode
-    readTrace stmt slice
+unfolding printed decimal traceAnswer traceVersion sliceAnswer readTable isTable readFile headerReply headSize headerInputs headerCount
+    inputsLimit inputRoom records recordOf frame instr parseFrom readToken operator fits unwind places encode header readTrace isTrace
+    stmt slice
 small = refl
 
 -- and for K = 1: nine of its eleven statements are kept
@@ -41,9 +44,9 @@ with-a-back-jump : printed (1 ∷ smallRule)
     ++ ascii "5 assign s6 s5 5 ule s3 zero 8 s5 ite s5 ite\n"
     ++ ascii "7 assume s6 7 ule 1 zero 1 ite\n"
     ++ ascii "8 assert s6 8 ule 0 1 ite\n"
-unfolding printed decimal traceAnswer sliceAnswer readTable readFile headerReply records recordOf frame instr parseFrom readToken operator
-    fits unwind places encode
-    readTrace stmt slice
+unfolding printed decimal traceAnswer traceVersion sliceAnswer readTable isTable readFile headerReply headSize headerInputs headerCount
+    inputsLimit inputRoom records recordOf frame instr parseFrom readToken operator fits unwind places encode header readTrace isTrace
+    stmt slice
 with-a-back-jump = refl
 
 -- a buffer as long as the text gets it, one that is a byte shorter is refused 10
@@ -57,7 +60,8 @@ refusals : (printed [] ≡ ascii "refused 1 at 0\n") × (printed (0 ∷ []) ≡ 
     × (printed (0 ∷ 2 ∷ 0 ∷ 6 ∷ 0 ∷ 0 ∷ 0 ∷ []) ≡ ascii "refused 2 at 0\n")
     × (printed (255 ∷ 1 ∷ 0 ∷ 7 ∷ 0 ∷ 0 ∷ 0 ∷ []) ≡ ascii "refused 3 at 0\n")
     × (printed (0 ∷ 1 ∷ 0 ∷ 7 ∷ 0 ∷ 0 ∷ 0 ∷ 9 ∷ []) ≡ ascii "refused 5 at 6\n")
-unfolding printed decimal traceAnswer readTable readFile headerReply records
+unfolding printed decimal traceAnswer traceVersion readTable isTable readFile headerReply headSize headerInputs headerCount inputsLimit
+    inputRoom records
 refusals = (refl, refl, refl, refl, refl)
 
 -- document 01's names of the tokens, in its order

@@ -13,13 +13,15 @@ use Rattle.expr.specs.NumberLaws.{bytesOf-length}
 use Rattle.expr.specs.Word.{Unary, Not, Neg, Zero, Binary, Add, Sub, Mul, Udiv, Urem, And, Or, Xor, Shl, Lshr, Equal, Ult, Ule, Slt}
 use Rattle.expr.specs.Token.{Token, Const, Symbol, Un, Bin, Ite, tokenBytes, exprBytes}
 use Rattle.file.specs.Outcome.{Kind, Assume, Assert, Bound}
-use Rattle.file.specs.File.{Input, Accepted, Refused, recordBytes, recordsBytes}
+use Rattle.file.specs.File.{Head, inputRoom, Input, Accepted, Refused, recordBytes, recordsBytes}
+use Rattle.file.specs.FileLaws.{head-long}
+use Rattle.file.specs.EncodeLaws.{encode-length}
 use Rattle.table.specs.Table.{Instr, readTable}
 use Rattle.table.specs.TableLaws.{table-ok}
-use Rattle.trace.specs.Trace.{Stmt, Assign, Test, stmtBytes, encodeTrace}
+use Rattle.trace.specs.Trace.{Stmt, Assign, Test, stmtBytes, traceHead, encodeTrace}
 use Rattle.unwind.specs.Unwind.{unwind}
 use Rattle.slice.specs.Slice.{slice}
-use Rattle.slice.specs.SliceLaws.{encode-length, slice-fits}
+use Rattle.slice.specs.SliceLaws.{slice-fits}
 use Rattle.write.specs.Ascii.{ascii}
 use Rattle.write.specs.Decimal.{decimal}
 use Rattle.write.specs.DecimalLaws.{ten-digits, two-digits}
@@ -115,7 +117,8 @@ lines-small (t ∷ ts) =
 
 -- ---- whole texts
 
-first-small : (S n : ℕ) → S ≤ 64 → length (firstLine S n) ≤ 36
+first-small : (S n : ℕ) → S ≤ inputRoom → length (firstLine S n) ≤ 36
+unfolding inputRoom
 first-small S n h =
     let a = length-append (ascii "inputs " ++ decimal S ++ ascii " statements " ++ decimal n) (ascii "\n") in
     let b = length-append (ascii "inputs " ++ decimal S ++ ascii " statements ") (decimal n) in
@@ -123,9 +126,17 @@ first-small S n h =
     let d = length-append (ascii "inputs ") (decimal S) in
     omega (arith, two-digits S (omega arith), ten-digits n)
 
-text-small : (S : ℕ) (ts : List Stmt) → S ≤ 64 → length (sliceText S ts) ≤ 6 * length (encodeTrace S ts)
-text-small S ts h =
-    omega (arith, length-append (firstLine S (length ts)) (stmtLines ts), first-small S (length ts) h, lines-small ts, encode-length S ts)
+text-small : (head : Head) (ts : List Stmt) → head .inputs ≤ inputRoom
+    → length (sliceText (head .inputs) ts) ≤ 6 * length (encodeTrace head ts)
+text-small head ts h =
+    omega (
+      arith,
+      length-append (firstLine (head .inputs) (length ts)) (stmtLines ts),
+      first-small (head .inputs) (length ts) h,
+      lines-small ts,
+      encode-length stmtBytes head ts,
+      head-long (head .version),
+    )
 
 refusal-small : (reply offset : ℕ) → length (refusalText reply offset) ≤ 33
 refusal-small reply offset =
@@ -143,19 +154,22 @@ printed-small (K ∷ b) o = go (readTable b) refl
   where
     go : (x : Input Instr) → readTable b ≡ x → length (printed (K ∷ b)) ≤ 393210
     go (Refused r at) e = omega (arith, ap length (prints-refusal K b r at e), refusal-small r at)
-    go (Accepted S is) e = limits (decLt 4096 (length (unwind Assume S is K))) (decLt 65535 (length (encodeTrace S (unwind Assume S is K))))
+    go (Accepted head is) e = limits (decLt 4096 (length (unwind Assume S is K))) (decLt 65535 (length (encodeTrace (traceHead S) (unwind Assume S is K))))
       where
-        limits : Dec (4096 < length (unwind Assume S is K)) → Dec (65535 < length (encodeTrace S (unwind Assume S is K)))
+        S : ℕ
+        S = head .inputs
+
+        limits : Dec (4096 < length (unwind Assume S is K)) → Dec (65535 < length (encodeTrace (traceHead S) (unwind Assume S is K)))
             → length (printed (K ∷ b)) ≤ 393210
         limits (yes h) d =
-            omega (arith, ap length (prints-nine K b S is e (omega (arith, o .0)) (λ l. omega (arith, l .0))), refusal-small 9 0)
+            omega (arith, ap length (prints-nine K b head is e (omega (arith, o .0)) (λ l. omega (arith, l .0))), refusal-small 9 0)
         limits (no h) (yes k) =
-            omega (arith, ap length (prints-nine K b S is e (omega (arith, o .0)) (λ l. omega (arith, l .1))), refusal-small 9 0)
+            omega (arith, ap length (prints-nine K b head is e (omega (arith, o .0)) (λ l. omega (arith, l .1))), refusal-small 9 0)
         limits (no h) (no k) =
             let ts = unwind Assume S is K in
             omega (
               arith,
-              ap length (prints-slice K b S is e (omega (arith, o .0)) (o .1) (omega arith) (omega arith)),
-              text-small S (slice ts) (table-ok b S is (o .1) e .inputs),
-              slice-fits S ts,
+              ap length (prints-slice K b head is e (omega (arith, o .0)) (o .1) (omega arith) (omega arith)),
+              text-small (traceHead S) (slice ts) (table-ok b head is (o .1) e .inputs),
+              slice-fits (traceHead S) ts,
             )

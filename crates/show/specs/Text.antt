@@ -81,7 +81,7 @@ refusalText reply offset = ascii "refused " ++ decimal reply ++ ascii " at " ++ 
 -- ---- the whole output
 
 abbrev pub traceText : Input Stmt → List ℕ
-traceText (Accepted S ts) = sliceText S ts
+traceText (Accepted head ts) = sliceText (head .inputs) ts
 traceText (Refused reply offset) = refusalText reply offset
 
 -- the slice of the trace, into room enough for every one; slicing a written trace refuses nothing

@@ -6,22 +6,20 @@ use native.Mathlib.Decide.{decLt}
 use mathlib.Core.Path.{_≡_, refl, sym, ap, _∙_}
 use mathlib.Core.Bool.{Bool, true, false, cond, _&&_}
 use mathlib.Core.List.{List, [], _∷_}
-use lib.ListN.{length, take, drop, getD}
+use lib.ListN.{length, take}
 use lib.Seq.{length-take-le, take-all, getD-take}
-use lib.Dec.{eqb, leb}
+use lib.Dec.{leb}
 use borrow.Author.Tests.{ne-eqb, le-leb, lt-leb, leb-true}
-use Rattle.expr.specs.Lists.{All, all-take, all-drop, both-and}
-use Rattle.expr.specs.Number.{Byte, numberOf}
-use Rattle.expr.specs.NumberLaws.{number-lt}
+use Rattle.expr.specs.Lists.{All, all-take, both-and}
+use Rattle.expr.specs.Number.{Byte}
 use Rattle.file.specs.Outcome.{Assume}
-use Rattle.file.specs.File.{headerInputs, headerCount, headerReply, Input, Accepted, Refused}
-use Rattle.file.specs.FileLaws.{file-refused}
-use Rattle.file.specs.FileLaws.{file-is}
-use Rattle.file.specs.ReadingLaws.{short}
-use Rattle.table.specs.Table.{Instr, instrs, readTable}
+use Rattle.file.specs.File.{Head, headerVersion, Input, Accepted, Refused}
+use Rattle.file.specs.FileLaws.{file-refused, file-is}
+use Rattle.file.specs.ReadingLaws.{short, too-long}
+use Rattle.table.specs.Table.{Instr, instrs, isTable, readTable}
 use Rattle.table.specs.TableLaws.{IsTable, table-ok, table-refused-positive}
-use Rattle.trace.specs.Trace.{Stmt, stmts, readTrace, encodeTrace}
-use Rattle.trace.specs.EncodeLaws.{encode-read}
+use Rattle.trace.specs.Trace.{Stmt, stmts, isTrace, readTrace, traceHead, encodeTrace}
+use Rattle.trace.specs.EncodeLaws.{encode-read, room-written, trace-known}
 use Rattle.unwind.specs.Unwind.{unwind}
 use Rattle.unwind.specs.UnwindLaws.{unwind-ok, unwind-accepted}
 use Rattle.unwind.specs.Answer as Tracing
@@ -42,13 +40,16 @@ prints-refusal K b reply offset e =
     ∙ ap (λ x. cond x (slicedText (sliceAnswer [] 65535)) (refusalText reply offset))
     (ne-eqb reply 0 (λ z. omega (arith, table-refused-positive b reply offset e)))
 
-module _ (K : ℕ) (b : List ℕ) (S : ℕ) (is : List Instr) (accepted : readTable b ≡ Accepted S is) (bound : K ≤ 255) where
+module _ (K : ℕ) (b : List ℕ) (head : Head) (is : List Instr) (accepted : readTable b ≡ Accepted head is) (bound : K ≤ 255) where
+  abbrev S : ℕ
+  S = head .inputs
+
   -- the trace's statements, and their bytes
   abbrev ts : List Stmt
   ts = unwind Assume S is K
 
   abbrev bytes : List ℕ
-  bytes = encodeTrace S ts
+  bytes = encodeTrace (traceHead S) ts
 
   -- by the tests for 9 and 10; no room above 65,535 decides
   traced : (room : ℕ) → 65535 ≤ room
@@ -71,7 +72,8 @@ module _ (K : ℕ) (b : List ℕ) (S : ℕ) (is : List Instr) (accepted : readTa
       go false y e = refl
 
   -- a trace over its limits is refused 9
-  pub prints-nine : ((length (unwind Assume S is K) ≤ 4096) × (length (encodeTrace S (unwind Assume S is K)) ≤ 65535) → ⊥)
+  pub prints-nine : ((length (unwind Assume (head .inputs) is K) ≤ 4096)
+      × (length (encodeTrace (traceHead (head .inputs)) (unwind Assume (head .inputs) is K)) ≤ 65535) → ⊥)
       → printed (K ∷ b) ≡ refusalText 9 0
   unfolding printed
   prints-nine n =
@@ -85,22 +87,24 @@ module _ (K : ℕ) (b : List ℕ) (S : ℕ) (is : List Instr) (accepted : readTa
       over-limit true e false f = refl
       over-limit false e y f = refl
 
-  module _ (o : All Byte b) (count : length (unwind Assume S is K) ≤ 4096) (total : length (encodeTrace S (unwind Assume S is K)) ≤ 65535)
-    where
-      table : IsTable b S is
-      table = table-ok b S is o accepted
+  module _ (o : All Byte b) (count : length (unwind Assume (head .inputs) is K) ≤ 4096)
+      (total : length (encodeTrace (traceHead (head .inputs)) (unwind Assume (head .inputs) is K)) ≤ 65535) where
+    table : IsTable b S is
+    table = table-ok b head is o accepted
 
-      -- else the text is that of the slice of the unwound table
-      pub prints-slice : printed (K ∷ b) ≡ sliceText S (slice (unwind Assume S is K))
-      unfolding printed
-      prints-slice =
-          ap tracedText
-          (traced 65535 (omega arith)
-          ∙ ap (λ x. cond x (record { reply = 0; offset = 0; bytes = bytes }) (Tracing.refusal 9 0))
-          (both-and (leb (length ts) 4096) (leb (length bytes) 65535) (le-leb (length ts) 4096 count) (le-leb (length bytes) 65535 total)))
-          ∙ ap slicedText
-          (slice-done bytes S ts 65535 (unwind-accepted S is K (table .ok) (table .inputs) count total) (omega (arith, slice-fits S ts)))
-          ∙ ap traceText (slice-read S ts (table .inputs) count total (unwind-ok S is K (table .ok) (table .inputs) count))
+    -- else the text is that of the slice of the unwound table
+    pub prints-slice : printed (K ∷ b) ≡ sliceText (head .inputs) (slice (unwind Assume (head .inputs) is K))
+    unfolding printed
+    prints-slice =
+        ap tracedText
+        (traced 65535 (omega arith)
+        ∙ ap (λ x. cond x (record { reply = 0; offset = 0; bytes = bytes }) (Tracing.refusal 9 0))
+        (both-and (leb (length ts) 4096) (leb (length bytes) 65535) (le-leb (length ts) 4096 count) (le-leb (length bytes) 65535 total)))
+        ∙ ap slicedText
+        (slice-done bytes (traceHead S) ts 65535 (unwind-accepted S is K (table .ok) (table .inputs) count total)
+        (omega (arith, slice-fits (traceHead S) ts)))
+        ∙ ap traceText (slice-read (traceHead S) ts (trace-known S) (omega (arith, table .inputs, room-written)) count total
+        (unwind-ok S is K (table .ok) (table .inputs) count))
 
 -- ---- no room decides
 
@@ -111,19 +115,20 @@ trace-room b K room h = go (readTable b) refl
   where
     go : (x : Input Instr) → readTable b ≡ x → answered K room x ≡ answered K 65535 x
     go (Refused r at) e = refl
-    go (Accepted S is) e =
+    go (Accepted head is) e =
+        let S = head .inputs in
         elim (decLt 255 K) [
           | yes l ↦
               ap (λ x. cond x (Tracing.traceOf room S (unwind Assume S is K)) (Tracing.refusal 8 0)) (lt-leb K 255 l)
               ∙ sym (ap (λ x. cond x (Tracing.traceOf 65535 S (unwind Assume S is K)) (Tracing.refusal 8 0)) (lt-leb K 255 l))
           | no l ↦
-              sym (ap (answered K room) e) ∙ traced K b S is e (omega arith) room h
-              ∙ sym (traced K b S is e (omega arith) 65535 (omega arith)) ∙ ap (answered K 65535) e
+              sym (ap (answered K room) e) ∙ traced K b head is e (omega arith) room h
+              ∙ sym (traced K b head is e (omega arith) 65535 (omega arith)) ∙ ap (answered K 65535) e
         ]
 
-trace-short : (t : List ℕ) (S : ℕ) (us : List Stmt) → All Byte t → readTrace t ≡ Accepted S us → length t ≤ 65535
+trace-short : (t : List ℕ) (head : Head) (us : List Stmt) → All Byte t → readTrace t ≡ Accepted head us → length t ≤ 65535
 unfolding readTrace
-trace-short t S us o e = omega (arith, short 129 4096 t o (file-is 129 4096 stmts t S us e .header))
+trace-short t head us o e = omega (arith, short isTrace 4096 t o (file-is isTrace 4096 stmts t head us e .header))
 
 pub slice-room : (t : List ℕ) (room : ℕ) → All Byte t → 65535 ≤ room → sliceAnswer t room ≡ sliceAnswer t 65535
 unfolding sliceAnswer
@@ -131,29 +136,23 @@ slice-room t room o h = go (readTrace t) refl
   where
     go : (x : Input Stmt) → readTrace t ≡ x → Slicing.answered room x ≡ Slicing.answered 65535 x
     go (Refused r at) e = refl
-    go (Accepted S us) e =
-        let small : length (encodeTrace S (slice us)) ≤ 65535 =
-        omega (arith, slice-fits S us, ap length (encode-read t S us o e), trace-short t S us o e) in
-        ap (λ x. cond x (Slicing.sliceOf S (slice us)) (Slicing.refusal 10 0))
-        (le-leb (length (encodeTrace S (slice us))) room (omega arith))
-        ∙ sym (ap (λ x. cond x (Slicing.sliceOf S (slice us)) (Slicing.refusal 10 0))
-        (le-leb (length (encodeTrace S (slice us))) 65535 small))
+    go (Accepted head us) e =
+        let small : length (encodeTrace head (slice us)) ≤ 65535 =
+        omega (arith, slice-fits head us, ap length (encode-read t head us o e), trace-short t head us o e) in
+        ap (λ x. cond x (Slicing.sliceOf head (slice us)) (Slicing.refusal 10 0))
+        (le-leb (length (encodeTrace head (slice us))) room (omega arith))
+        ∙ sym (ap (λ x. cond x (Slicing.sliceOf head (slice us)) (Slicing.refusal 10 0))
+        (le-leb (length (encodeTrace head (slice us))) 65535 small))
 
 -- ---- input that is too long for any table
 
 -- the length field has two bytes: over 65,535 bytes are refused 2 if their version is wrong, else 3
-pub too-long : (b : List ℕ) → All Byte b → 65536 ≤ length b → readTable b ≡ Refused (cond (eqb (getD b 0 0) 1) 3 2) 0
-unfolding readTable headerReply
-too-long b o h = file-refused 1 1024 instrs b (cond (eqb (getD b 0 0) 1) 3 2) reply (not-zero (eqb (getD b 0 0) 1))
+pub table-too-long : (b : List ℕ) → All Byte b → 65536 ≤ length b → readTable b ≡ Refused (cond (isTable (headerVersion b)) 3 2) 0
+unfolding readTable
+table-too-long b o h =
+    file-refused isTable 1024 instrs b (cond (isTable (headerVersion b)) 3 2) (too-long isTable 1024 b o h)
+    (not-zero (isTable (headerVersion b)))
   where
-    reply : headerReply 1 1024 b ≡ cond (eqb (getD b 0 0) 1) 3 2
-    reply =
-        ap (λ x. cond x (cond (eqb (getD b 0 0) 1)
-        (cond (eqb (numberOf 2 (drop 1 b)) (length b)) (cond (leb (headerInputs b) 64 && leb (headerCount b) 1024) 0 4) 3) 2) 1)
-        (le-leb 6 (length b) (omega arith))
-        ∙ ap (λ x. cond (eqb (getD b 0 0) 1) (cond x (cond (leb (headerInputs b) 64 && leb (headerCount b) 1024) 0 4) 3) 2)
-        (ne-eqb (numberOf 2 (drop 1 b)) (length b) (λ e. omega (arith, number-lt 2 (drop 1 b) (all-drop Byte 1 b o))))
-
     not-zero : (x : Bool) → _≡_ {A = ℕ} (cond x 3 2) 0 → ⊥
     not-zero true e = omega arith
     not-zero false e = omega arith
@@ -164,14 +163,15 @@ table-cut n K b l o =
     elim (decLt n (length b)) [
       | yes h ↦
           ap (answered K 65535)
-          (too-long (take n b) (all-take Byte n b o) (omega (arith, length-take-le n b (omega arith)))
-          ∙ ap (λ v. Refused (cond (eqb v 1) 3 2) 0) (getD-take n b 0 0 (omega arith)) ∙ sym (too-long b o (omega arith)))
+          (table-too-long (take n b) (all-take Byte n b o) (omega (arith, length-take-le n b (omega arith)))
+          ∙ ap (λ v. Refused (cond (isTable v) 3 2) 0) (getD-take n b 0 0 (omega arith)) ∙ sym (table-too-long b o (omega arith)))
       | no h ↦ ap (λ t. traceAnswer t K 65535) (take-all n b (omega arith))
     ]
 
 -- so that is what is printed
-pub prints-too-long : (K : ℕ) (b : List ℕ) → All Byte b → 65536 ≤ length b → printed (K ∷ b) ≡ refusalText (cond (eqb (getD b 0 0) 1) 3 2) 0
-prints-too-long K b o h = prints-refusal K b (cond (eqb (getD b 0 0) 1) 3 2) 0 (too-long b o h)
+pub prints-too-long : (K : ℕ) (b : List ℕ) → All Byte b → 65536 ≤ length b
+    → printed (K ∷ b) ≡ refusalText (cond (isTable (headerVersion b)) 3 2) 0
+prints-too-long K b o h = prints-refusal K b (cond (isTable (headerVersion b)) 3 2) 0 (table-too-long b o h)
 
 -- K, and 65,536 bytes or more of what follows
 pub printed-cut : (n : ℕ) (input : List ℕ) → 65536 ≤ n → All Byte input → printed (take (suc n) input) ≡ printed input

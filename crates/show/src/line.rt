@@ -7,7 +7,7 @@ ghost use mathlib.Core.Bool.{true};
 ghost use Prim.Native.Nat.{_+_, _*_, _^_, _≤_, _<_};
 ghost use lib.ListN.{drop};
 ghost use Rattle.expr.specs.Number.{numberOf};
-ghost use Rattle.file.specs.File.{headerCount};
+ghost use Rattle.file.specs.File.{inputRoom, headerCount};
 ghost use Rattle.file.specs.Shown.{isGood, isAccepted, listed};
 ghost use Rattle.trace.specs.Trace.{readTrace};
 ghost use Rattle.trace.specs.Shown.{held};
@@ -40,7 +40,7 @@ fn put_line(trace: &[u8], at: usize, out: &mut [u8], to: usize) -> usize
 
 // S and the statement count, from the buffer's first byte.
 fn put_first(inputs: usize, n: usize, out: &mut [u8]) -> usize
-    requires { ⌜ (inputs ≤ 64) × (n ≤ 4096) ⌝ }
+    requires { ⌜ (inputs ≤ inputRoom) × (n ≤ 4096) ⌝ }
     ensures { λ r. ⌜ Wrote (now (out .entry)) 0 (firstLine inputs n) (now (out .exit)) r × (r ≤ 36) ⌝ }
 {
     let a = write::fit_part(b"inputs ", out, 0);
@@ -57,7 +57,7 @@ fn put_lines(trace: &[u8], n: usize, out: &mut [u8], to: usize) -> usize
         × (r ≤ 393210) ⌝ }
 {
     let mut k: usize = 0;
-    let mut at: usize = 6;
+    let mut at = file::header_size(trace);
     let mut next = to;
     while k < n {
         next = put_line(trace, at, &mut *out, next);
@@ -72,8 +72,8 @@ pub fn put_slice(trace: &[u8], out: &mut [u8]) -> usize
     requires { ⌜ isAccepted (readTrace (now trace)) ≡ true ⌝ }
     ensures { λ r. ⌜ Wrote (now (out .entry)) 0 (traceText (readTrace (now (trace .entry)))) (now (out .exit)) r × (r ≤ 393210) ⌝ }
 {
-    let inputs = number::wide(trace[3]);
-    let n = number::two_at(trace, 4);
+    let inputs = file::inputs_of(trace);
+    let n = file::count_of(trace);
     let a = put_first(inputs, n, out);
     put_lines(trace, n, out, a)
 }

@@ -10,6 +10,7 @@ ghost use Rattle.expr.specs.Token.{readToken};
 ghost use Rattle.expr.specs.Expr.{below, parse};
 ghost use Rattle.expr.specs.Shown.{popsOf, isWhole, tokensOf, sizeOf, Stands};
 ghost use Rattle.file.specs.Shown.{kindOf};
+ghost use Rattle.trace.specs.Shown.{symbolRoom};
 ghost use Rattle.write.specs.Splice.{Wrote};
 ghost use Rattle.write.specs.Ascii.{ascii};
 ghost use Rattle.show.specs.Text.{kindName, exprText, refusalText};
@@ -72,7 +73,7 @@ struct Put {
 
 // The token at a place of an expression, after a space. No token has more letters than six for each of its bytes.
 fn put_token(e: &[u8], i: usize, out: &mut [u8], at: usize) -> Put
-    requires { ⌜ (i < length (now e)) × Stands Trace 4160 (now e) i
+    requires { ⌜ (i < length (now e)) × Stands Trace symbolRoom (now e) i
         × (at + 6 * sizeOf Trace (readToken Trace (drop i (now e))) < 2 ^ 64) ⌝ }
     ensures { λ r. ⌜ (r .size ≡ sizeOf Trace (readToken Trace (drop i (now (e .entry))))) × Wrote (now (out .entry)) at
         (readText (readToken Trace (drop i (now (e .entry))))) (now (out .exit)) (r .to) × (r .to ≤ at + 6 * r .size) ⌝ }
@@ -102,8 +103,8 @@ fn put_token(e: &[u8], i: usize, out: &mut [u8], at: usize) -> Put
 
 // A whole expression, each token after a space.
 pub fn put_tokens(e: &[u8], out: &mut [u8], at: usize) -> usize
-    requires { ⌜ (isWhole (parse Trace (below 4160) (now e)) ≡ true) × (at + 6 * length (now e) < 2 ^ 64) ⌝ }
-    ensures { λ r. ⌜ Wrote (now (out .entry)) at (exprText (tokensOf (parse Trace (below 4160) (now (e .entry))))) (now (out .exit)) r
+    requires { ⌜ (isWhole (parse Trace (below symbolRoom) (now e)) ≡ true) × (at + 6 * length (now e) < 2 ^ 64) ⌝ }
+    ensures { λ r. ⌜ Wrote (now (out .entry)) at (exprText (tokensOf (parse Trace (below symbolRoom) (now (e .entry))))) (now (out .exit)) r
         × (r ≤ at + 6 * length (now (e .entry))) ⌝ }
 {
     let mut i: usize = 0;

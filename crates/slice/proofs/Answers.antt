@@ -11,7 +11,8 @@ use lib.Dec.{leb}
 use borrow.Author.Tests.{le-leb, lt-leb}
 use Rattle.expr.specs.Lists.{All}
 use Rattle.expr.specs.Number.{Byte}
-use Rattle.file.specs.File.{header, Accepted, Refused, recordsBytes, encode}
+use Rattle.file.specs.File.{Head, headerSize, headerInputs, headOf, header, Accepted, Refused, recordsBytes, encode}
+use Rattle.file.specs.EncodeLaws.{encode-length}
 use Rattle.file.specs.Shown.{isAccepted, listed}
 use Rattle.trace.specs.Trace.{Stmt, readTrace, stmtBytes, encodeTrace, readsTrace}
 use Rattle.write.specs.Splice.{Wrote, over}
@@ -19,7 +20,7 @@ use Rattle.write.specs.SpliceLaws.{splice-over, _then_, wrote-as, wrote-length}
 use Rattle.slice.specs.declared.Answer.{Answer}
 use Rattle.slice.specs.declared.back.Kept.{Kept}
 use Rattle.slice.specs.Slice.{slice}
-use Rattle.slice.specs.SliceLaws.{slice-smaller, encode-length}
+use Rattle.slice.specs.SliceLaws.{slice-smaller}
 use Rattle.slice.specs.Mask.{maskOf, inputMask}
 use Rattle.slice.specs.MaskLaws.{mask-same}
 use Rattle.slice.specs.Answer.{refusal, sliceOf, answered, sliceAnswer, numbers, SliceWritten}
@@ -38,49 +39,56 @@ module _ (s out : List ℕ) where
 
 -- ---- the slice is found
 
-module _ (s : List ℕ) (S : ℕ) (is : readTrace s ≡ Accepted S (listed (readTrace s))) (flags needed : List Bool) (k : Kept)
+module _ (s : List ℕ) (is : readTrace s ≡ Accepted (headOf s) (listed (readTrace s))) (flags needed : List Bool) (k : Kept)
     (w : WalkedBack (listed (readTrace s)) flags needed k) where
+  abbrev head : Head
+  head = headOf s
+
   abbrev ts : List Stmt
   ts = listed (readTrace s)
-
-  total : length (encodeTrace S (slice (listed (readTrace s)))) ≡ 6 + k .size
-  total = encode-length S (slice ts) ∙ ap (λ n. 6 + n) (sym (w .size))
 
   pub size-small : All Byte s → k .size < 65536
   size-small o = omega (arith, w .size, slice-smaller ts, records-small s o (ap isAccepted is))
 
-  module _ (out : List ℕ) where
-    sliced : (b : Bool) → leb (length (encodeTrace S (slice (listed (readTrace s))))) (length out) ≡ b
-        → sliceAnswer s (length out) ≡ cond b (sliceOf S (slice (listed (readTrace s)))) (refusal 10 0)
+  -- with the code's own size of the header
+  module _ {size : ℕ} (q : size ≡ headerSize s) (out : List ℕ) where
+    total : length (encodeTrace head (slice ts)) ≡ size + k .size
+    total = encode-length stmtBytes head (slice ts) ∙ ap₂ (λ m n. m + n) (sym q) (sym (w .size))
+
+    sliced : (b : Bool) → leb (length (encodeTrace head (slice ts))) (length out) ≡ b
+        → sliceAnswer s (length out) ≡ cond b (sliceOf head (slice ts)) (refusal 10 0)
     unfolding sliceAnswer
-    sliced b e = ap (answered (length out)) is ∙ ap (λ b. cond b (sliceOf S (slice ts)) (refusal 10 0)) e
+    sliced b e = ap (answered (length out)) is ∙ ap (λ b. cond b (sliceOf head (slice ts)) (refusal 10 0)) e
 
-    pub no-room : length out < 6 + k .size → (q : Answer) → q ≡ numbers (refusal 10 0) → SliceWritten s out out q
-    no-room h q = refused-as s out 10 0 q (sliced false (lt-leb (length (encodeTrace S (slice ts))) (length out) (omega (arith, total))))
+    pub no-room : length out < size + k .size → (r : Answer) → r ≡ numbers (refusal 10 0) → SliceWritten s out out r
+    no-room h r = refused-as s out 10 0 r (sliced false (lt-leb (length (encodeTrace head (slice ts))) (length out) (omega (arith, total))))
 
-    module _ (h : 6 + k .size ≤ length out) {p : List ℕ} {to : ℕ} (u : Wrote out 0 (header 129 (6 + k .size) S (k .count)) p to) where
+    module _ (h : size + k .size ≤ length out) {p : List ℕ} {to : ℕ} (u : Wrote out 0 (header (headOf s) (size + k .size) (k .count)) p to)
+        (front : to ≡ headerSize s) where
       pub records-room : to + length (recordsBytes stmtBytes (kept flags (listed (readTrace s)))) ≤ length p
-      records-room = omega (arith, u .next, wrote-length u, w .size, ap (λ us. length (recordsBytes stmtBytes us)) (w .those))
+      records-room = omega (arith, front, q, wrote-length u, w .size, ap (λ us. length (recordsBytes stmtBytes us)) (w .those))
 
-      bytes : header 129 (6 + k .size) S (k .count) ++ recordsBytes stmtBytes (kept flags (listed (readTrace s))) ≡ encodeTrace S
-          (slice (listed (readTrace s)))
+      bytes : header head (size + k .size) (k .count) ++ recordsBytes stmtBytes (kept flags ts) ≡ encodeTrace head (slice ts)
       unfolding encode
       bytes =
-          ap (λ n. header 129 (6 + n) S (k .count) ++ recordsBytes stmtBytes (kept flags ts)) (w .size)
-          ∙ ap₂ (λ n us. header 129 (6 + length (recordsBytes stmtBytes (slice ts))) S n ++ recordsBytes stmtBytes us) (w .count) (w .those)
+          ap₂ (λ m n. header head (m + n) (k .count) ++ recordsBytes stmtBytes (kept flags ts)) q (w .size)
+          ∙ ap₂ (λ n us. header head (headerSize s + length (recordsBytes stmtBytes (slice ts))) n ++ recordsBytes stmtBytes us)
+          (w .count) (w .those)
 
+      -- and number of inputs
       pub slice-written : {out′ : List ℕ} {end : ℕ} → Wrote p to (recordsBytes stmtBytes (kept flags (listed (readTrace s)))) out′ end
-          → (mask : ℕ) → mask ≡ maskOf S (inSet needed)
-          → SliceWritten s out out′ (record { reply = 0; offset = 0; length = 6 + k .size; mask = mask; inputs = ones mask })
-      slice-written v mask m =
-          let a = sliced true (le-leb (length (encodeTrace S (slice ts))) (length out) (omega (arith, total))) in
-          let reads : mask ≡ inputMask S (slice (listed (readTrace s))) = m ∙ mask-same S (inSet needed) (λ x. readsTrace x (slice ts))
-          (λ x l. w .reads x) in
+          → {S : ℕ} → S ≡ headerInputs s → (mask : ℕ) → mask ≡ maskOf S (inSet needed)
+          → SliceWritten s out out′ (record { reply = 0; offset = 0; length = size + k .size; mask = mask; inputs = ones mask })
+      slice-written v i mask m =
+          let a = sliced true (le-leb (length (encodeTrace head (slice ts))) (length out) (omega (arith, total))) in
+          let reads : mask ≡ inputMask (headerInputs s) (slice ts)
+          = m ∙ ap (λ S. maskOf S (inSet needed)) i
+          ∙ mask-same (headerInputs s) (inSet needed) (λ x. readsTrace x (slice ts)) (λ x l. w .reads x) in
           record {
             answer =
                 ap₂ {C = Answer} (λ n mask. record { reply = 0; offset = 0; length = n; mask = mask; inputs = ones mask }) (sym total)
                 reads ∙ sym (ap numbers a);
             buffer =
-                (wrote-as bytes (u then v)) .buffer ∙ splice-over (encodeTrace S (slice ts)) out (omega (arith, total))
+                (wrote-as bytes (u then v)) .buffer ∙ splice-over (encodeTrace head (slice ts)) out (omega (arith, total))
                 ∙ sym (ap (λ a. over (a .bytes) out) a);
           }

@@ -13,7 +13,7 @@ use Rattle.expr.specs.Number.{Byte}
 use Rattle.file.specs.File.{Body, Good, recordBytes, recordsBytes}
 use Rattle.file.specs.Shown.{restOf}
 use Rattle.trace.specs.Trace.{Stmt, stmtBytes}
-use Rattle.trace.specs.Shown.{loose, held}
+use Rattle.trace.specs.Shown.{symbolRoom, loose, held}
 use Rattle.trace.proofs.Held.{Held}
 use Rattle.write.specs.Splice.{Wrote}
 use Rattle.write.specs.SpliceLaws.{splice-nil, wrote-as, Ahead, ahead-start, ahead-step, ahead-end, ahead-room}
@@ -23,7 +23,7 @@ use Rattle.slice.proofs.Walk.{kept-none}
 
 -- ---- a record
 
-module _ {s : List ℕ} {at : ℕ} (h : Held 4160 loose s at) (keep : Bool) where
+module _ {s : List ℕ} {at : ℕ} (h : Held symbolRoom loose s at) (keep : Bool) where
   bytes-are : (b : Bool) → keep ≡ b → keptBytes keep (held (drop at s)) ≡ cond b (recordBytes stmtBytes (h .statement)) []
   bytes-are b e = ap₂ keptBytes e (h .is)
 

@@ -22,7 +22,7 @@ use Rattle.file.specs.RecordLaws.{read-body, body-length}
 use Rattle.file.specs.EncodeLaws.{record-same}
 use Rattle.trace.specs.Trace.{Stmt, Assign, Test, see, stmt, stmtBytes}
 use Rattle.trace.specs.EncodeLaws.{stmt-same}
-use Rattle.trace.specs.Shown.{loose, held, exprPart, exprOf}
+use Rattle.trace.specs.Shown.{symbolRoom, loose, held, exprPart, exprOf}
 use Rattle.trace.proofs.Held.{Held}
 use Rattle.trace.proofs.Moves.{expr-whole}
 use Rattle.slice.specs.declared.back.Kept.{Kept}
@@ -37,7 +37,7 @@ unkept asserts needed (Good (Test Assert p e)) h = absurd (let z : _≡_ {A = �
 unkept asserts needed (Good (Test Bound p e)) h = refl
 unkept asserts needed (Bad r) h = refl
 
-module _ {s : List ℕ} {at : ℕ} (h : Held 4160 loose s at) where
+module _ {s : List ℕ} {at : ℕ} (h : Held symbolRoom loose s at) where
   assign-is : getD s (at + 2) 0 ≡ 1 → held (drop at s)
       ≡ Good (Assign (numberOf 2 (drop (at + 3) s)) (numberOf 2 (drop (at + 5) s)) (exprOf (h .statement)))
   assign-is k = h .is ∙ ap Good (h .assigns k .0)
@@ -75,7 +75,7 @@ module _ {s : List ℕ} {at : ℕ} (h : Held 4160 loose s at) where
   -- ---- what it reads
 
   -- with the code's own number of symbols
-  pub reads-marked : (T : ℕ) → T ≡ 4160 → {e : List ℕ} → e ≡ exprPart s at → (needed needed′ : List Bool)
+  pub reads-marked : (T : ℕ) → T ≡ symbolRoom → {e : List ℕ} → e ≡ exprPart s at → (needed needed′ : List Bool)
       → ((x : ℕ) → inSet needed′ x ≡ (reads x (tokensOf (parse Trace (below T) e)) || inSet needed x))
       → (x : ℕ) → inSet needed′ x ≡ (readsIn x (held (drop at s)) || inSet needed x)
   reads-marked T t q needed needed′ m x =
@@ -109,10 +109,10 @@ module _ {s : List ℕ} {at : ℕ} (h : Held 4160 loose s at) where
 module _ (s : List ℕ) (at : ℕ) (o : All Byte s) (t : Stmt) (g : held (drop at s) ≡ Good t) where
   statement-length : length (stmtBytes t) ≡ numberOf 2 (drop at s)
   statement-length =
-      ap length (stmt-same 64 loose (take (frame (drop at s)) (drop 2 (drop at s)))
+      ap length (stmt-same symbolRoom loose (take (frame (drop at s)) (drop 2 (drop at s)))
       t (all-take Byte (frame (drop at s)) (drop 2 (drop at s)) (all-drop Byte 2 (drop at s) (all-drop Byte at s o)))
-      (read-body (stmt 4160 loose) s at t g))
-      ∙ body-length (stmt 4160 loose) s at t g
+      (read-body (stmt symbolRoom loose) s at t g))
+      ∙ body-length (stmt symbolRoom loose) s at t g
 
   pub record-length : length (recordBytes stmtBytes t) ≡ 2 + numberOf 2 (drop at s)
   record-length = omega (
@@ -129,5 +129,5 @@ module _ (s : List ℕ) (at : ℕ) (o : All Byte s) (t : Stmt) (g : held (drop a
       ∙ ap₂ (λ m a. take m (drop a s)) (let n : 2 + numberOf 2 (drop at s) - 0 ≡ length (recordBytes stmtBytes t) =
       omega (arith, record-length) in n) (let z : at + 0 ≡ at = omega arith in z)
       ∙ ap (take (length (recordBytes stmtBytes t)))
-      (sym (record-same stmtBytes (stmt 4160) see (stmt-same 64) loose (drop at s) t (all-drop Byte at s o) g))
+      (sym (record-same stmtBytes (stmt symbolRoom) see (stmt-same symbolRoom) loose (drop at s) t (all-drop Byte at s o) g))
       ∙ take-append-seam (recordBytes stmtBytes t) rest

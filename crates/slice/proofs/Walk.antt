@@ -10,14 +10,15 @@ use Rattle.expr.specs.Lists.{All}
 use Rattle.expr.specs.Number.{Byte}
 use Rattle.file.specs.File.{Body, Good, Input, Accepted, Refused, recordBytes, recordsBytes}
 use Rattle.file.specs.Shown.{isAccepted, listed}
+use Rattle.file.specs.EncodeLaws.{encode-length}
 use Rattle.file.specs.FileLaws.{file-is}
 use Rattle.file.specs.ReadingLaws.{short}
-use Rattle.trace.specs.Trace.{Stmt, Assign, Test, stmts, readTrace, stmtBytes, readsTrace}
+use Rattle.trace.specs.Trace.{Stmt, Assign, Test, stmts, isTrace, readTrace, stmtBytes, readsTrace}
 use Rattle.trace.specs.EncodeLaws.{encode-read}
 use Rattle.slice.specs.declared.back.Kept.{Kept}
 use Rattle.trace.specs.Asserts.{isAssert, hasAssert}
 use Rattle.slice.specs.Slice.{keep, slice}
-use Rattle.slice.specs.SliceLaws.{slice-shorter, slice-smaller, encode-length}
+use Rattle.slice.specs.SliceLaws.{slice-shorter, slice-smaller}
 use Rattle.slice.specs.Shown as Shown
 use Rattle.slice.specs.Shown.{inSet, readsIn, keepStmt, keepIn, assertsIn, Stepped, WalkedBack}
 
@@ -30,9 +31,14 @@ unfolding readTrace
 records-small s o h = go (readTrace s) refl h
   where
     go : (i : Input Stmt) → readTrace s ≡ i → isAccepted i ≡ true → length (recordsBytes stmtBytes (listed (readTrace s))) < 65536
-    go (Accepted S ts) e h =
-        let few : length s < 65536 = short 129 4096 s o (file-is 129 4096 stmts s S ts e .header) in
-        omega (arith, ap length (encode-read s S ts o e), encode-length S ts, ap (λ i. length (recordsBytes stmtBytes (listed i))) e)
+    go (Accepted head ts) e h =
+        let few : length s < 65536 = short isTrace 4096 s o (file-is isTrace 4096 stmts s head ts e .header) in
+        omega (
+          arith,
+          ap length (encode-read s head ts o e),
+          encode-length stmtBytes head ts,
+          ap (λ i. length (recordsBytes stmtBytes (listed i))) e,
+        )
     go (Refused r f) e h = absurd (let z : _≡_ {A = ℕ} 0 1 = cc in omega arith)
 
 records-from : (k : ℕ) (ts : List Stmt) → length (recordsBytes stmtBytes (drop k ts)) ≤ length (recordsBytes stmtBytes ts)

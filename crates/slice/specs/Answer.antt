@@ -6,7 +6,7 @@ use mathlib.Core.List.{List, []}
 use lib.ListN.{length}
 use lib.Count.{ones}
 use lib.Dec.{leb}
-use Rattle.file.specs.File.{Input, Accepted, Refused}
+use Rattle.file.specs.File.{Head, Input, Accepted, Refused}
 use Rattle.trace.specs.Trace.{Stmt, readTrace, encodeTrace}
 use Rattle.write.specs.Splice.{over}
 use Rattle.slice.specs.declared.Answer.{Answer}
@@ -24,14 +24,20 @@ pub record Sliced : Type 0 where
 abbrev pub refusal : (reply offset : ℕ) → Sliced
 refusal reply offset = record { reply = reply; offset = offset; bytes = []; mask = 0; inputs = 0 }
 
--- kept records stay byte for byte, with new length and count in the header
-abbrev pub sliceOf : (S : ℕ) (kept : List Stmt) → Sliced
-sliceOf S kept = record { reply = 0; offset = 0; bytes = encodeTrace S kept; mask = inputMask S kept; inputs = ones (inputMask S kept) }
+-- kept records stay byte for byte, behind the trace's header with new length and count
+abbrev pub sliceOf : (head : Head) (kept : List Stmt) → Sliced
+sliceOf head kept = record {
+  reply = 0;
+  offset = 0;
+  bytes = encodeTrace head kept;
+  mask = inputMask (head .inputs) kept;
+  inputs = ones (inputMask (head .inputs) kept);
+}
 
 -- after the trace's own refusals, 10
 abbrev pub answered : (room : ℕ) → Input Stmt → Sliced
 answered room (Refused reply offset) = refusal reply offset
-answered room (Accepted S ts) = cond (leb (length (encodeTrace S (slice ts))) room) (sliceOf S (slice ts)) (refusal 10 0)
+answered room (Accepted head ts) = cond (leb (length (encodeTrace head (slice ts))) room) (sliceOf head (slice ts)) (refusal 10 0)
 
 unfoldable pub sliceAnswer : (trace : List ℕ) (room : ℕ) → Sliced
 sliceAnswer trace room = answered room (readTrace trace)

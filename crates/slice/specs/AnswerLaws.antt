@@ -8,7 +8,7 @@ use mathlib.Core.List.{List}
 use lib.ListN.{length}
 use lib.Dec.{leb}
 use Rattle.expr.specs.Word.{test, bit}
-use Rattle.file.specs.File.{Accepted}
+use Rattle.file.specs.File.{Head, Accepted}
 use Rattle.trace.specs.Trace.{Stmt, readTrace, encodeTrace, readsTrace}
 use Rattle.slice.specs.Slice.{slice}
 use Rattle.slice.specs.MaskLaws.{countOf, mask-bit, mask-count}
@@ -18,13 +18,16 @@ pub record Masked (S : ℕ) (kept : List Stmt) (q : Sliced) : Type 0 where
   pub bits : (s : ℕ) → s < S → bit s (q .mask) ≡ test (readsTrace s kept)
   pub counted : q .inputs ≡ countOf S (λ s. readsTrace s kept)
 
-pub slice-masked : (t : List ℕ) (room S : ℕ) (ts : List Stmt) → readTrace t ≡ Accepted S ts → (sliceAnswer t room) .reply ≡ 0
-    → Masked S (slice ts) (sliceAnswer t room)
+pub slice-masked : (t : List ℕ) (room : ℕ) (head : Head) (ts : List Stmt) → readTrace t ≡ Accepted head ts
+    → (sliceAnswer t room) .reply ≡ 0 → Masked (head .inputs) (slice ts) (sliceAnswer t room)
 unfolding sliceAnswer
-slice-masked t room S ts h done =
-    rw h (go (leb (length (encodeTrace S (slice ts))) room) (ap (λ i. (answered room i) .reply) (sym h) ∙ done))
+slice-masked t room head ts h done =
+    rw h (go (leb (length (encodeTrace head (slice ts))) room) (ap (λ i. (answered room i) .reply) (sym h) ∙ done))
   where
-    go : (b : Bool) → (cond b (sliceOf S (slice ts)) (refusal 10 0)) .reply ≡ 0
-        → Masked S (slice ts) (cond b (sliceOf S (slice ts)) (refusal 10 0))
-    go true z = record { bits = mask-bit S (λ s. readsTrace s (slice ts)); counted = mask-count S (λ s. readsTrace s (slice ts)) }
+    go : (b : Bool) → (cond b (sliceOf head (slice ts)) (refusal 10 0)) .reply ≡ 0
+        → Masked (head .inputs) (slice ts) (cond b (sliceOf head (slice ts)) (refusal 10 0))
+    go true z = record {
+      bits = mask-bit (head .inputs) (λ s. readsTrace s (slice ts));
+      counted = mask-count (head .inputs) (λ s. readsTrace s (slice ts));
+    }
     go false z = absurd (omega arith)

@@ -13,6 +13,8 @@ use Rattle.trace.specs.Cases.{smallTrace0, noInstructions}
 use Rattle.slice.specs.Slice.{slice}
 use Rattle.slice.specs.MaskLaws.{mask-count}
 use Rattle.slice.specs.Answer.{Sliced, refusal, sliceAnswer}
+use Rattle.file.specs.File.{headSize, headerInputs, headerCount, inputsLimit, inputRoom, header}
+use Rattle.trace.specs.Trace.{isTrace, traceVersion}
 
 abbrev sliced : (bytes : List ℕ) (mask inputs : ℕ) → Sliced
 sliced bytes mask inputs = record { reply = 0; offset = 0; bytes = bytes; mask = mask; inputs = inputs }
@@ -38,12 +40,14 @@ smallSlice0 =
 
 -- m5: the slice has 102 bytes, mask 1, count 1; a room that is one byte short is 10
 pub m5 : (sliceAnswer smallTrace0 102 ≡ sliced smallSlice0 1 1) × (length smallSlice0 ≡ 102) × (sliceAnswer smallTrace0 101 ≡ refusal 10 0)
-unfolding sliceAnswer readTrace readFile headerReply records recordOf frame stmt parseFrom readToken operator fits slice encode ones
+unfolding sliceAnswer readTrace isTrace traceVersion readFile headerReply headSize headerInputs headerCount inputsLimit inputRoom records
+    recordOf frame stmt parseFrom readToken operator fits slice encode header ones
 m5 = (refl, refl, refl)
 
 -- m11: no statements, 6 bytes
 pub m11 : sliceAnswer noInstructions 6 ≡ sliced (0x81 ∷ 0x00 ∷ 0x06 ∷ 0x00 ∷ 0x00 ∷ 0x00 ∷ []) 0 0
-unfolding sliceAnswer readTrace readFile headerReply records recordOf frame stmt parseFrom readToken operator fits slice encode ones
+unfolding sliceAnswer readTrace isTrace traceVersion readFile headerReply headSize headerInputs headerCount inputsLimit inputRoom records
+    recordOf frame stmt parseFrom readToken operator fits slice encode header ones
 m11 = refl
 
 -- ---- traces of three inputs
@@ -70,7 +74,8 @@ nothing = sliced (traceOf 0 []) 0 0
 tests : (sliceAnswer (traceOf 2 (assert 0 1 ++ assert 1 1)) 255 ≡ sliced (traceOf 2 (assert 0 1 ++ assert 1 1)) 2 1)
     × (sliceAnswer (traceOf 2 (assume 0 0 ++ assert 1 1)) 255 ≡ sliced (traceOf 2 (assume 0 0 ++ assert 1 1)) 3 2)
     × (sliceAnswer (traceOf 2 (assert 0 1 ++ assume 1 1)) 255 ≡ sliced (traceOf 1 (assert 0 1)) 2 1)
-unfolding sliceAnswer readTrace readFile headerReply records recordOf frame stmt parseFrom readToken operator fits slice encode ones
+unfolding sliceAnswer readTrace isTrace traceVersion readFile headerReply headSize headerInputs headerCount inputsLimit inputRoom records
+    recordOf frame stmt parseFrom readToken operator fits slice encode header ones
 tests = (refl, refl, refl)
 
 -- keep an Assign if its symbol is needed: a kept Assert, Assume or Assign reads it, and not only a dropped Assume or Assign
@@ -81,23 +86,27 @@ assigns : (sliceAnswer (traceOf 2 (assign 0 3 2 ++ assert 1 3)) 255 ≡ sliced (
     ≡ sliced (traceOf 3 (assign 0 3 2 ++ assign 1 4 3 ++ assert 2 4)) 4 1)
     × (sliceAnswer (traceOf 3 (assign 0 3 2 ++ assert 1 1 ++ assume 2 3)) 255 ≡ sliced (traceOf 1 (assert 1 1)) 2 1)
     × (sliceAnswer (traceOf 3 (assign 0 3 2 ++ assign 1 4 3 ++ assert 2 1)) 255 ≡ sliced (traceOf 1 (assert 2 1)) 2 1)
-unfolding sliceAnswer readTrace readFile headerReply records recordOf frame stmt parseFrom readToken operator fits slice encode ones
+unfolding sliceAnswer readTrace isTrace traceVersion readFile headerReply headSize headerInputs headerCount inputsLimit inputRoom records
+    recordOf frame stmt parseFrom readToken operator fits slice encode header ones
 assigns = (refl, refl, refl, refl, refl)
 
 -- a trace with no Assert has the empty slice
 no-assert : (sliceAnswer (traceOf 0 []) 6 ≡ nothing) × (sliceAnswer (traceOf 2 (assign 0 3 2 ++ assume 1 3)) 6 ≡ nothing)
-unfolding sliceAnswer readTrace readFile headerReply records recordOf frame stmt parseFrom readToken operator fits slice encode ones
+unfolding sliceAnswer readTrace isTrace traceVersion readFile headerReply headSize headerInputs headerCount inputsLimit inputRoom records
+    recordOf frame stmt parseFrom readToken operator fits slice encode header ones
 no-assert = (refl, refl)
 
 -- kept records stay in order, with their numbers: places 9, 5 and 7 and symbol 6 where places 0 and 1 and symbols 3 and 4 are dropped
 numbers-stay : sliceAnswer (traceOf 5 (assign 0 3 0 ++ assert 9 2 ++ assign 1 4 3 ++ assign 5 6 1 ++ assert 7 6)) 255
     ≡ sliced (traceOf 3 (assert 9 2 ++ assign 5 6 1 ++ assert 7 6)) 6 2
-unfolding sliceAnswer readTrace readFile headerReply records recordOf frame stmt parseFrom readToken operator fits slice encode ones
+unfolding sliceAnswer readTrace isTrace traceVersion readFile headerReply headSize headerInputs headerCount inputsLimit inputRoom records
+    recordOf frame stmt parseFrom readToken operator fits slice encode header ones
 numbers-stay = refl
 
 -- a refused trace writes nothing: its own refusals, with their offsets, come before 10
 refusals : (sliceAnswer [] 0 ≡ refusal 1 0) × (sliceAnswer (traceOf 2 (assert 0 1 ++ assert 1 3)) 0 ≡ refusal 7 14)
-unfolding sliceAnswer readTrace readFile headerReply records recordOf frame stmt parseFrom readToken operator fits
+unfolding sliceAnswer readTrace isTrace traceVersion readFile headerReply headSize headerInputs headerCount inputsLimit inputRoom records
+    recordOf frame stmt parseFrom readToken operator fits
 refusals = (refl, refl)
 
 -- 64 inputs, assert s63 at 0: the last input has the mask's highest bit
@@ -105,5 +114,6 @@ abbrev last : List ℕ
 last = 0x81 ∷ 0x00 ∷ 0x0E ∷ 0x40 ∷ 0x00 ∷ 0x01 ∷ assert 0 63
 
 last-input : sliceAnswer last 14 ≡ sliced last (2 ^ 63) 1
-unfolding sliceAnswer readTrace readFile headerReply records recordOf frame stmt parseFrom readToken operator fits slice encode
+unfolding sliceAnswer readTrace isTrace traceVersion readFile headerReply headSize headerInputs headerCount inputsLimit inputRoom records
+    recordOf frame stmt parseFrom readToken operator fits slice encode header
 last-input = ap (sliced last (2 ^ 63)) (mask-count 64 (λ s. readsTrace s (Test Assert 0 (Symbol 63 ∷ []) ∷ [])))

@@ -14,18 +14,19 @@ use lib.ListN.{length, take, drop, length-append}
 use lib.Seq.{take-at, drop-at}
 use lib.Dec.{leb}
 use Rattle.expr.specs.Lists.{All}
-use Rattle.expr.specs.Number.{Byte, numberOf, bytesOf}
+use Rattle.expr.specs.Number.{Byte, numberOf}
 use Rattle.expr.specs.NumberLaws.{number-written}
-use Rattle.file.specs.File.{Accepted, header, recordBytes, recordsBytes, encode}
+use Rattle.file.specs.File.{Head, headSize, headerCount, afterHeader, Accepted, header, recordBytes, recordsBytes, encode}
+use Rattle.file.specs.EncodeLaws.{encode-length, encode-count, encode-after}
 use Rattle.file.specs.FileLaws.{file-is}
 use Rattle.file.specs.ReadingLaws.{short}
-use Rattle.trace.specs.Trace.{Stmt, Assign, Test, stmts, readTrace, stmtBytes, encodeTrace, readsTrace}
+use Rattle.trace.specs.Trace.{Stmt, Assign, Test, stmts, isTrace, readTrace, stmtBytes, encodeTrace, readsTrace}
 use Rattle.trace.specs.WellFormed.{trace-ok}
 use Rattle.trace.specs.EncodeLaws.{encode-read}
 use Rattle.trace.specs.Asserts.{isAssert, hasAssert}
 use Rattle.slice.specs.Slice.{keep, slice}
 use Rattle.slice.specs.Answer.{sliceOf, refusal, answered, sliceAnswer}
-use Rattle.slice.specs.SliceLaws.{encode-length, slice-asserts}
+use Rattle.slice.specs.SliceLaws.{slice-asserts}
 
 -- ---- pieces of bytes
 
@@ -36,7 +37,7 @@ cut (suc c) bs = take (2 + numberOf 2 bs) bs ∷ cut c (drop (2 + numberOf 2 bs)
 
 -- the records of a file, as many as its header says
 abbrev pub recordsOf : (file : List ℕ) → List (List ℕ)
-recordsOf file = cut (numberOf 2 (drop 4 file)) (drop 6 file)
+recordsOf file = cut (headerCount file) (afterHeader file)
 
 abbrev pub joined : List (List ℕ) → List ℕ
 joined [] = []
@@ -72,19 +73,17 @@ cut-records (t ∷ ts) h =
     ∙ ap₂ {C = List (List ℕ)} (λ p q. p ∷ cut n q) (take-at one rest (2 + l) long) (drop-at one rest (2 + l) long)
     ∙ ap {B = List (List ℕ)} (λ q. one ∷ q) (cut-records ts (omega arith))
 
-pub trace-records : (t : List ℕ) (S : ℕ) (ts : List Stmt) → All Byte t → readTrace t ≡ Accepted S ts
+pub trace-records : (t : List ℕ) (head : Head) (ts : List Stmt) → All Byte t → readTrace t ≡ Accepted head ts
     → recordsOf t ≡ map (recordBytes stmtBytes) ts
-unfolding readTrace encode
-trace-records t S ts o h =
-    let bytes : encodeTrace S ts ≡ t = encode-read t S ts o h in
-    let few : length t < 65536 = short 129 4096 t o (file-is 129 4096 stmts t S ts h .header) in
-    let total : length t ≡ 6 + length (recordsBytes stmtBytes ts) = sym (ap length bytes) ∙ encode-length S ts in
-    let rest = recordsBytes stmtBytes ts in
-    let limit = trace-ok t S ts o h .few in
-    let count : numberOf 2 (bytesOf 2 (length ts) ++ rest) ≡ length ts = number-written 2 (length ts) rest (omega (arith, limit)) in
+unfolding readTrace
+trace-records t head ts o h =
+    let bytes : encodeTrace head ts ≡ t = encode-read t head ts o h in
+    let few : length t < 65536 = short isTrace 4096 t o (file-is isTrace 4096 stmts t head ts h .header) in
+    let total = encode-length stmtBytes head ts in
+    let limit = trace-ok t head ts o h .few in
     ap recordsOf (sym bytes)
-    ∙ ap (λ c. cut c rest) count
-    ∙ cut-records ts (omega arith)
+    ∙ ap₂ cut (encode-count stmtBytes head ts (omega (arith, limit))) (encode-after stmtBytes head ts)
+    ∙ cut-records ts (omega (arith, ap length bytes, total))
 
 -- ---- of which the slice has those that are kept
 
@@ -106,26 +105,28 @@ records-counted : (ts : List Stmt) → length (pieces ts) ≡ length ts
 records-counted [] = refl
 records-counted (t ∷ ts) = ap suc (records-counted ts)
 
--- a file of these records: version 129, its length, S, their count, and they
-abbrev pub fileOf : (S : ℕ) → List (List ℕ) → List ℕ
-fileOf S ps = header 129 (6 + length (joined ps)) S (length ps) ++ joined ps
+-- a file of these records: a header with their length and count, and they
+abbrev pub fileOf : (head : Head) → List (List ℕ) → List ℕ
+fileOf head ps = header head (headSize (head .version) + length (joined ps)) (length ps) ++ joined ps
 
-encode-pieces : (S : ℕ) (ts : List Stmt) → encodeTrace S ts ≡ fileOf S (pieces ts)
+encode-pieces : (head : Head) (ts : List Stmt) → encodeTrace head ts ≡ fileOf head (pieces ts)
 unfolding encode
-encode-pieces S ts = ap₂ (λ r n. header 129 (6 + length r) S n ++ r) (sym (records-joined ts)) (sym (records-counted ts))
+encode-pieces head ts =
+    ap₂ (λ r n. header head (headSize (head .version) + length r) n ++ r) (sym (records-joined ts)) (sym (records-counted ts))
 
 -- a slice that is answered is the file of those of its trace's records that are kept
-pub slice-keeps-bytes : (t : List ℕ) (room S : ℕ) (ts : List Stmt) → All Byte t → readTrace t ≡ Accepted S ts
-    → (sliceAnswer t room) .reply ≡ 0 → (sliceAnswer t room) .bytes ≡ fileOf S (picked (flags ts) (recordsOf t))
+pub slice-keeps-bytes : (t : List ℕ) (room : ℕ) (head : Head) (ts : List Stmt) → All Byte t → readTrace t ≡ Accepted head ts
+    → (sliceAnswer t room) .reply ≡ 0 → (sliceAnswer t room) .bytes ≡ fileOf head (picked (flags ts) (recordsOf t))
 unfolding sliceAnswer
-slice-keeps-bytes t room S ts o h done =
+slice-keeps-bytes t room head ts o h done =
     ap (λ i. (answered room i) .bytes) h
-    ∙ go (leb (length (encodeTrace S (slice ts))) room) (ap (λ i. (answered room i) .reply) (sym h) ∙ done)
+    ∙ go (leb (length (encodeTrace head (slice ts))) room) (ap (λ i. (answered room i) .reply) (sym h) ∙ done)
   where
-    go : (b : Bool) → (cond b (sliceOf S (slice ts)) (refusal 10 0)) .reply ≡ 0
-        → (cond b (sliceOf S (slice ts)) (refusal 10 0)) .bytes ≡ fileOf S (picked (flags ts) (recordsOf t))
+    go : (b : Bool) → (cond b (sliceOf head (slice ts)) (refusal 10 0)) .reply ≡ 0
+        → (cond b (sliceOf head (slice ts)) (refusal 10 0)) .bytes ≡ fileOf head (picked (flags ts) (recordsOf t))
     go true z =
-        encode-pieces S (slice ts) ∙ ap (fileOf S) (sym (picked-records ts) ∙ ap (picked (flags ts)) (sym (trace-records t S ts o h)))
+        encode-pieces head (slice ts)
+        ∙ ap (fileOf head) (sym (picked-records ts) ∙ ap (picked (flags ts)) (sym (trace-records t head ts o h)))
     go false z = absurd (omega arith)
 
 -- ---- nothing idle is kept

@@ -26,10 +26,12 @@ use Rattle.expr.specs.ExprLaws.{Ok, fits-is, is-fits}
 use Rattle.expr.specs.Eval.{Env, update, value, readsToken, reads}
 use Rattle.expr.specs.EvalLaws.{value-agree}
 use Rattle.file.specs.Outcome.{Kind, Assume, Assert, Bound, Outcome, Ended, Failed, Lost, verdict, placeOf}
-use Rattle.file.specs.File.{Input, Accepted, Refused, recordBytes, recordsBytes, encode}
-use Rattle.file.specs.FileLaws.{file-is, file-refused-positive}
+use Rattle.file.specs.File.{Head, inputsLimit, headerVersion, Input, Accepted, Refused, recordBytes, recordsBytes}
+use Rattle.file.specs.EncodeLaws.{encode-length}
+use Rattle.file.specs.FileLaws.{header-is, file-is, file-refused-positive}
 use Rattle.file.specs.ReadingLaws.{short}
-use Rattle.trace.specs.Trace.{Stmt, Assign, Test, Seen, atFirst, see, stmt, stmts, readTrace, stmtBytes, encodeTrace, readsTrace}
+use Rattle.trace.specs.Trace.{Stmt, Assign, Test, Seen, atFirst, see, stmt, stmts, isTrace, readTrace, stmtBytes, encodeTrace}
+use Rattle.trace.specs.Trace.{readsTrace}
 use Rattle.trace.specs.TraceLaws.{stmt-low}
 use Rattle.trace.specs.WellFormed.{StmtsOk, trace-ok}
 use Rattle.trace.specs.EncodeLaws.{encode-read, read-encode}
@@ -214,34 +216,38 @@ slice-smaller (t ∷ ts) = go (keep t ts (slice ts)) (slice-smaller ts)
     go true h = omega (arith, first (slice ts), first ts)
     go false h = omega (arith, first ts)
 
-pub encode-length : (S : ℕ) (ts : List Stmt) → length (encodeTrace S ts) ≡ 6 + length (recordsBytes stmtBytes ts)
-unfolding encode
-encode-length S ts = omega arith
-
 -- its bytes are no more than the trace's
-pub slice-fits : (S : ℕ) (ts : List Stmt) → length (encodeTrace S (slice ts)) ≤ length (encodeTrace S ts)
-slice-fits S ts = omega (arith, encode-length S ts, encode-length S (slice ts), slice-smaller ts)
+pub slice-fits : (head : Head) (ts : List Stmt) → length (encodeTrace head (slice ts)) ≤ length (encodeTrace head ts)
+slice-fits head ts =
+    omega (arith, encode-length stmtBytes head ts, encode-length stmtBytes head (slice ts), slice-smaller ts)
 
 -- the slice of a well-formed trace within the limits, written and read again, is itself
-pub slice-read : (S : ℕ) (ts : List Stmt) → S ≤ 64 → length ts ≤ 4096 → length (encodeTrace S ts) ≤ 65535 → StmtsOk S (atFirst S) ts
-    → readTrace (encodeTrace S (slice ts)) ≡ Accepted S (slice ts)
-slice-read S ts few count total o =
-    read-encode S (slice ts) few (omega (arith, slice-shorter ts)) (omega (arith, slice-smaller ts, encode-length S ts)) (slice-ok S ts o)
+pub slice-read : (head : Head) (ts : List Stmt) → isTrace (head .version) ≡ true → head .inputs ≤ inputsLimit (head .version)
+    → length ts ≤ 4096 → length (encodeTrace head ts) ≤ 65535 → StmtsOk (head .inputs) (atFirst (head .inputs)) ts
+    → readTrace (encodeTrace head (slice ts)) ≡ Accepted head (slice ts)
+slice-read head ts known few count total o =
+    read-encode head (slice ts) known few (omega (arith, slice-shorter ts)) (omega (arith, slice-fits head ts))
+    (slice-ok (head .inputs) ts o)
 
-pub slice-accepted : (s : List ℕ) (S : ℕ) (ts : List Stmt) → All Byte s → readTrace s ≡ Accepted S ts
-    → readTrace (encodeTrace S (slice ts)) ≡ Accepted S (slice ts)
+pub slice-accepted : (s : List ℕ) (head : Head) (ts : List Stmt) → All Byte s → readTrace s ≡ Accepted head ts
+    → readTrace (encodeTrace head (slice ts)) ≡ Accepted head (slice ts)
 unfolding readTrace
-slice-accepted s S ts o h =
-    let t = trace-ok s S ts o h in
-    let few : length s < 65536 = short 129 4096 s o (file-is 129 4096 stmts s S ts h .header) in
-    slice-read S ts (t .inputs) (t .few) (omega (arith, ap length (encode-read s S ts o h))) (t .ok)
+slice-accepted s head ts o h =
+    let t = trace-ok s head ts o h in
+    let f = file-is isTrace 4096 stmts s head ts h in
+    let g = header-is isTrace 4096 s (f .header) in
+    let few : length s < 65536 = short isTrace 4096 s o (f .header) in
+    let version : headerVersion s ≡ head .version = ap (λ h. h .version) (f .is) in
+    slice-read head ts (ap isTrace (sym version) ∙ g .right) (omega (arith, g .inputs, f .inputs, ap inputsLimit version)) (t .few)
+    (omega (arith, ap length (encode-read s head ts o h))) (t .ok)
 
 -- where it fits, nothing is refused
-pub slice-done : (s : List ℕ) (S : ℕ) (ts : List Stmt) (room : ℕ) → readTrace s ≡ Accepted S ts → length (encodeTrace S (slice ts)) ≤ room
-    → sliceAnswer s room ≡ sliceOf S (slice ts)
+pub slice-done : (s : List ℕ) (head : Head) (ts : List Stmt) (room : ℕ) → readTrace s ≡ Accepted head ts
+    → length (encodeTrace head (slice ts)) ≤ room → sliceAnswer s room ≡ sliceOf head (slice ts)
 unfolding sliceAnswer
-slice-done s S ts room h fits =
-    ap (answered room) h ∙ ap (λ b. cond b (sliceOf S (slice ts)) (refusal 10 0)) (le-leb (length (encodeTrace S (slice ts))) room fits)
+slice-done s head ts room h fits =
+    ap (answered room) h
+    ∙ ap (λ b. cond b (sliceOf head (slice ts)) (refusal 10 0)) (le-leb (length (encodeTrace head (slice ts))) room fits)
 
 -- ---- the slice of a slice
 
@@ -279,7 +285,9 @@ slice-slice (t ∷ ts) = go (keep t ts (slice ts)) refl (slice-slice ts)
 -- a refusal's reply is not 0
 refused-positive : (s : List ℕ) (r at : ℕ) → readTrace s ≡ Refused r at → 0 < r
 unfolding readTrace
-refused-positive s = file-refused-positive 129 4096 (λ S n. stmt (S + 4096)) see atFirst (λ S n. stmt-low (S + 4096)) s
+refused-positive s =
+    file-refused-positive isTrace 4096 (λ head n. stmt (head .inputs + 4096)) see (λ head. atFirst (head .inputs))
+    (λ head n. stmt-low (head .inputs + 4096)) s
 
 -- slicing a slice's bytes answers as slicing the trace's
 pub slice-again : (s : List ℕ) (room : ℕ) → All Byte s → (sliceAnswer s room) .reply ≡ 0 → sliceAnswer ((sliceAnswer s room) .bytes) room
@@ -289,12 +297,12 @@ slice-again s room o h = go (readTrace s) refl h
   where
     go : (i : Input Stmt) → readTrace s ≡ i → (answered room i) .reply ≡ 0 → sliceAnswer ((answered room i) .bytes) room ≡ answered room i
     go (Refused r at) q h = absurd (omega (arith, refused-positive s r at q))
-    go (Accepted S ts) q h = sliced (leb (length (encodeTrace S (slice ts))) room) refl h
+    go (Accepted head ts) q h = sliced (leb (length (encodeTrace head (slice ts))) room) refl h
       where
-        sliced : (b : Bool) → leb (length (encodeTrace S (slice ts))) room ≡ b → (cond b (sliceOf S (slice ts)) (refusal 10 0)) .reply ≡ 0
-            → sliceAnswer ((cond b (sliceOf S (slice ts)) (refusal 10 0)) .bytes) room ≡ cond b (sliceOf S (slice ts)) (refusal 10 0)
+        sliced : (b : Bool) → leb (length (encodeTrace head (slice ts))) room ≡ b → (cond b (sliceOf head (slice ts)) (refusal 10 0)) .reply ≡ 0
+            → sliceAnswer ((cond b (sliceOf head (slice ts)) (refusal 10 0)) .bytes) room ≡ cond b (sliceOf head (slice ts)) (refusal 10 0)
         sliced true e h =
-            ap (answered room) (slice-accepted s S ts o q)
-            ∙ ap (λ us. cond (leb (length (encodeTrace S us)) room) (sliceOf S us) (refusal 10 0)) (slice-slice ts)
-            ∙ ap (λ b. cond b (sliceOf S (slice ts)) (refusal 10 0)) e
+            ap (answered room) (slice-accepted s head ts o q)
+            ∙ ap (λ us. cond (leb (length (encodeTrace head us)) room) (sliceOf head us) (refusal 10 0)) (slice-slice ts)
+            ∙ ap (λ b. cond b (sliceOf head (slice ts)) (refusal 10 0)) e
         sliced false e h = absurd (omega arith)

@@ -11,7 +11,7 @@ ghost use lib.Dec.{eqb};
 ghost use Rattle.expr.specs.Number.{numberOf};
 ghost use Rattle.file.specs.Shown.{isGood, listed};
 ghost use Rattle.trace.specs.Trace.{readTrace};
-ghost use Rattle.trace.specs.Shown.{held, Ready};
+ghost use Rattle.trace.specs.Shown.{symbolRoom, held, Ready};
 ghost use Rattle.slice.specs.Shown.{inSet, keepIn, readsIn, Stepped, WalkedBack};
 
 // What is kept of the statements behind: whether an Assert is among them, how many they are, and their bytes.
@@ -23,7 +23,7 @@ pub struct Kept {
 
 // Whether the statement at a place is kept, where `asserts` says if an Assert follows it.
 fn keeps(trace: &[u8], at: usize, asserts: bool, needed: &[bool]) -> bool
-    requires { ⌜ (at < 65536) × (length (now needed) ≡ 4160) × (isGood (held (drop at (now trace))) ≡ true) ⌝ }
+    requires { ⌜ (at < 65536) × (length (now needed) ≡ symbolRoom) × (isGood (held (drop at (now trace))) ≡ true) ⌝ }
     ensures { λ r. ⌜ r ≡ keepIn asserts (inSet (now (needed .entry))) (held (drop at (now (trace .entry)))) ⌝ }
 {
     let kind = trace[at + 2];
@@ -39,7 +39,7 @@ fn keeps(trace: &[u8], at: usize, asserts: bool, needed: &[bool]) -> bool
 
 // The symbols that the statement at a place reads become needed.
 fn mark_record(trace: &[u8], at: usize, needed: &mut [bool])
-    requires { ⌜ (at < 65536) × (length (now needed) ≡ 4160) × (isGood (held (drop at (now trace))) ≡ true) ⌝ }
+    requires { ⌜ (at < 65536) × (length (now needed) ≡ symbolRoom) × (isGood (held (drop at (now trace))) ≡ true) ⌝ }
     ensures { λ _. ⌜ ((x : ℕ) → inSet (now (needed .exit)) x
         ≡ (readsIn x (held (drop at (now (trace .entry)))) || inSet (now (needed .entry)) x)) ⌝ }
 {
@@ -65,7 +65,7 @@ fn step_back(
     kept: &mut [bool],
     needed: &mut [bool],
 ) -> Kept
-    requires { ⌜ (at < 65536) × (length (now needed) ≡ 4160) × (k < length (now kept)) × (behind .count ≤ 4096) × (behind .size < 65536)
+    requires { ⌜ (at < 65536) × (length (now needed) ≡ symbolRoom) × (k < length (now kept)) × (behind .count ≤ 4096) × (behind .size < 65536)
         × (isGood (held (drop at (now trace))) ≡ true) ⌝ }
     ensures { λ r. ⌜ Stepped (held (drop at (now (trace .entry)))) (2 + numberOf 2 (drop at (now (trace .entry)))) k behind
         (now (kept .entry)) (now (needed .entry)) (now (kept .exit)) (now (needed .exit)) r ⌝ }
@@ -90,7 +90,7 @@ pub fn walk_back(
     kept: &mut [bool],
     needed: &mut [bool],
 ) -> Kept
-    requires { ⌜ Ready (now trace) (now offsets) n × (n ≤ length (now kept)) × (length (now needed) ≡ 4160)
+    requires { ⌜ Ready (now trace) (now offsets) n × (n ≤ length (now kept)) × (length (now needed) ≡ symbolRoom)
         × ((x : ℕ) → inSet (now needed) x ≡ false) × ((x : ℕ) → getD (now kept) x false ≡ false) ⌝ }
     ensures { λ r. ⌜ WalkedBack (listed (readTrace (now (trace .entry)))) (now (kept .exit)) (now (needed .exit)) r ⌝ }
 {

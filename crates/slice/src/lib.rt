@@ -45,14 +45,13 @@ pub fn slice_trace(trace: &[u8], out: &mut [u8]) -> Answer
     let mut flags: [bool; 4096] = [false; 4096];
     let mut needed = sets::clear();
     let k = back::walk_back(trace, &offsets, n, &mut flags, &mut needed);
-    let total = 6 + k.size;
+    let total = file::header_size(trace) + k.size;
     if out.len() < total {
         return refused(10, 0);
     }
-    let inputs = trace[3] as usize;
-    let to = write::put_header(129, total, inputs, k.count, out);
+    let to = write::put_header_of(trace, total, k.count, out);
     let _ = copy::copy_kept(trace, &offsets, n, &flags, out, to);
-    let mask = mask::mask_of(&needed, inputs);
+    let mask = mask::mask_of(&needed, file::inputs_of(trace));
     Answer {
         reply: 0,
         offset: 0,

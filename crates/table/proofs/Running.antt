@@ -11,12 +11,12 @@ use Rattle.expr.specs.Lists.{All, all-drop}
 use Rattle.expr.specs.Number.{Byte}
 use Rattle.expr.specs.Eval.{envOf}
 use Rattle.file.specs.Outcome.{verdict, placeOf}
-use Rattle.file.specs.File.{headerInputs, headerCount, Good, Read, recordOf, Input, Accepted, Refused}
-use Rattle.file.specs.Shown.{offsetsFrom, isAccepted, listed}
+use Rattle.file.specs.File.{Head, headerSize, headerCount, headOf, afterHeader, Good, Read, recordOf, Input, Accepted, Refused}
+use Rattle.file.specs.Shown.{offsetsIn, isAccepted, listed}
 use Rattle.file.specs.FileLaws.{IsFile, file-is}
 use Rattle.table.specs.declared.steps.Move.{Move}
 use Rattle.table.specs.declared.steps.Move.the-variants as M
-use Rattle.table.specs.Table.{Instr, instr, instrs, readTable}
+use Rattle.table.specs.Table.{Instr, instr, instrs, isTable, readTable}
 use Rattle.table.specs.TableLaws.{InstrOk, IsTable, table-ok, instr-at, record-more}
 use Rattle.table.specs.Run.{Next, Halt, Go, step, stepAt, Ran, onward, runFrom}
 use Rattle.table.specs.RunLaws.{left, Leads, fails, goes, step-leads, fuel-enough}
@@ -24,19 +24,19 @@ use Rattle.table.specs.Answer.{answerOf}
 use Rattle.table.specs.Shown.{Moved, stepBody}
 
 -- what an accepted table has for the run
-pub record Loaded (s : List ℕ) (S : ℕ) (is : List Instr) : Type 0 where
-  pub accepted : readTable s ≡ Accepted S is
-  pub table : IsTable s S is
+pub record Loaded (s : List ℕ) (head : Head) (is : List Instr) : Type 0 where
+  pub accepted : readTable s ≡ Accepted head is
+  pub table : IsTable s (head .inputs) is
 
-pub loaded : (s : List ℕ) → All Byte s → isAccepted (readTable s) ≡ true → Loaded s (headerInputs s) (listed (readTable s))
+pub loaded : (s : List ℕ) → All Byte s → isAccepted (readTable s) ≡ true → Loaded s (headOf s) (listed (readTable s))
 unfolding readTable
 loaded s o h = go (readTable s) refl h
   where
-    go : (x : Input Instr) → readTable s ≡ x → isAccepted x ≡ true → Loaded s (headerInputs s) (listed (readTable s))
-    go (Accepted S is) e h =
-        let i = file-is 1 1024 instrs s S is e .inputs in
-        subst (λ ys. Loaded s (headerInputs s) ys) (sym (ap listed e))
-        (subst (λ T. Loaded s T is) (sym i) (record { accepted = e; table = table-ok s S is o e }))
+    go : (x : Input Instr) → readTable s ≡ x → isAccepted x ≡ true → Loaded s (headOf s) (listed (readTable s))
+    go (Accepted head is) e h =
+        let i = file-is isTable 1024 instrs s head is e .is in
+        subst (λ ys. Loaded s (headOf s) ys) (sym (ap listed e))
+        (subst (λ h. Loaded s h is) (sym i) (record { accepted = e; table = table-ok s head is o e }))
     go (Refused r f) e h = absurd (let z : _≡_ {A = ℕ} 0 1 = cc in omega arith)
 
 -- the run of n instructions so far, with the values that it has left
@@ -51,8 +51,11 @@ pub record On (is : List Instr) (K n : ℕ) (v₀ vals : List ℕ) (i r j t : �
   pub running : Running is K n v₀ vals j t
   pub less : left (length is) K j t < left (length is) K i r
 
-module _ (s off : List ℕ) (n K T S : ℕ) (is : List Instr) (l : Loaded s S is) (q : length is ≡ n) (sy : S ≤ T)
-    (st : (i : ℕ) → i < n → getD off i 0 ≡ getD (offsetsFrom n 6 (drop 6 s)) i 0) (v₀ : List ℕ) where
+module _ (s off : List ℕ) (n K T : ℕ) (head : Head) (is : List Instr) (l : Loaded s head is) (q : length is ≡ n) (sy : head .inputs ≤ T)
+    (st : (i : ℕ) → i < n → getD off i 0 ≡ getD (offsetsIn n s) i 0) (v₀ : List ℕ) where
+  abbrev S : ℕ
+  S = head .inputs
+
   abbrev N : ℕ
   N = length is
 
@@ -83,8 +86,8 @@ module _ (s off : List ℕ) (n K T S : ℕ) (is : List Instr) (l : Loaded s S is
   unfolding readTable
   here i h = go (drop i is) refl
     where
-      f : IsFile 1 1024 instrs s S is
-      f = file-is 1 1024 instrs s S is (l .accepted)
+      f : IsFile isTable 1024 instrs s head is
+      f = file-is isTable 1024 instrs s head is (l .accepted)
 
       count : headerCount s ≡ n
       count = sym (l .table .count) ∙ q
@@ -97,7 +100,8 @@ module _ (s off : List ℕ) (n K T S : ℕ) (is : List Instr) (l : Loaded s S is
         is-here = e;
         good =
             ap (λ o. recordOf (instr T n) (drop o s)) (st i h)
-            ∙ record-more S T n _ x sy (instr-at s S n n 6 is (subst (λ m. instrs S m (drop 6 s) ≡ Read is) count (f .read)) i x xs e);
+            ∙ record-more S T n _ x sy (instr-at s S n n (headerSize s) is (subst (λ m. instrs head m (afterHeader s) ≡ Read is) count (f .read))
+            i x xs e);
       }
 
   module _ {vals : List ℕ} {i r : ℕ} (w : Running is K n v₀ vals i r) where

@@ -21,7 +21,8 @@ answerOf q = record { reply = 0; offset = 0; verdict = verdict (q .outcome); pla
 -- after the table's own refusals, 8 and then 11
 abbrev pub answered : (K : ℕ) (words : List ℕ) → Input Instr → Answer
 answered K words (Refused reply offset) = refusal reply offset
-answered K words (Accepted S is) = cond (leb K 255) (cond (eqb (length words) S) (answerOf (run is K words)) (refusal 11 0)) (refusal 8 0)
+answered K words (Accepted head is) =
+    cond (leb K 255) (cond (eqb (length words) (head .inputs)) (answerOf (run is K words)) (refusal 11 0)) (refusal 8 0)
 
 unfoldable pub runAnswer : (table : List ℕ) (K : ℕ) (words : List ℕ) → Answer
 runAnswer table K words = answered K words (readTable table)

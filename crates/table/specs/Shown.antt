@@ -14,7 +14,7 @@ use Rattle.file.specs.Shown.{restOf, fileCount, ReadFile}
 use Rattle.file.specs.declared.Reading.{Reading}
 use Rattle.table.specs.declared.steps.Move.{Move}
 use Rattle.table.specs.declared.steps.Move.the-variants as M
-use Rattle.table.specs.Table.{Instr, Assign, Test, IfThenGoto, instr, readTable}
+use Rattle.table.specs.Table.{Instr, Assign, Test, IfThenGoto, instr, isTable, readTable}
 use Rattle.table.specs.Run.{Next, Halt, Go, step}
 
 -- ---- reading
@@ -25,7 +25,7 @@ ReadRecords table S n before after r = File.ReadRecords {St = Unit {0}} (λ u. i
 
 -- of a table's records, how many are read before the first refusal
 abbrev pub instrCount : (table : List ℕ) → ℕ
-instrCount table = fileCount {St = Unit {0}} 1 1024 (λ S n u. instr S n) (λ u a. u) (λ S. tt) table
+instrCount table = fileCount {St = Unit {0}} isTable 1024 (λ head n u. instr (head .inputs) n) (λ u a. u) (λ head. tt) table
 
 -- the reading of a table
 abbrev pub ReadTable : (table before after : List ℕ) → Reading → Type 0

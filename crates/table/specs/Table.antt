@@ -1,13 +1,13 @@
 -- Document 01, "Table and trace bytes": a table's instructions, and the reading of any bytes as a table.
 use Prim.Native.Nat.{ℕ}
-use mathlib.Core.Bool.{cond}
+use mathlib.Core.Bool.{Bool, cond}
 use mathlib.Core.List.{List, [], _∷_}
 use lib.Dec.{eqb, leb, ltb}
 use Rattle.expr.specs.declared.File.the-variants.{Table}
 use Rattle.expr.specs.Token.{Token}
 use Rattle.expr.specs.Expr.{below, parse}
 use Rattle.file.specs.Outcome.{Kind, Assume, Assert}
-use Rattle.file.specs.File.{Body, Bad, field, rule, holding, Records, records, Input, readFile}
+use Rattle.file.specs.File.{Head, Body, Bad, field, rule, holding, Records, records, Input, readFile}
 
 pub data Instr : Type 0 where
   Assign : (symbol : ℕ) → List Token → Instr
@@ -41,9 +41,13 @@ instr S n (kind ∷ bs) =
 abbrev pub instrsFrom : (S n c : ℕ) → List ℕ → Records Instr
 instrsFrom S n c bs = records {St = Unit {0}} (λ u. instr S n) (λ u a. u) c tt bs
 
-abbrev pub instrs : (S n : ℕ) → List ℕ → Records Instr
-instrs S n bs = instrsFrom S n n bs
+abbrev pub instrs : (head : Head) (n : ℕ) → List ℕ → Records Instr
+instrs head n bs = instrsFrom (head .inputs) n n bs
 
--- version 1, at most 1,024 instructions
+-- the version of a table is 1
+unfoldable pub isTable : (version : ℕ) → Bool
+isTable version = eqb version 1
+
+-- at most 1,024 instructions
 unfoldable pub readTable : List ℕ → Input Instr
-readTable bs = readFile 1 1024 instrs bs
+readTable bs = readFile isTable 1024 instrs bs

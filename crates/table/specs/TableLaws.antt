@@ -16,11 +16,13 @@ use Rattle.expr.specs.Expr.{below, Whole, parse}
 use Rattle.expr.specs.TokenLaws.{Holds}
 use Rattle.expr.specs.ExprLaws.{Ok, parse-accepted, parse-more}
 use Rattle.file.specs.Outcome.{Assume, Assert}
-use Rattle.file.specs.File.{headerInputs, headerCount, Body, Good, Bad, field, frame, Read, recordOf, Accepted, Refused}
+use Rattle.file.specs.File.{Head, inputRoom, headerVersion, headerSize, headerInputs, headerCount, Body, Good, Bad, field, frame, Read}
+use Rattle.file.specs.File.{recordOf, Accepted, Refused}
 use Rattle.file.specs.Shown.{offsetsFrom}
 use Rattle.file.specs.FileLaws.{Low, holding-low, cond-low, framed, record-framed, record-good, next-record, Chain, records-chain}
-use Rattle.file.specs.FileLaws.{header-is, file-is, file-refused-positive, field-there, field-good, rule-good, holding-good}
-use Rattle.table.specs.Table.{Instr, Assign, Test, IfThenGoto, assign, test, ifThenGoto, instr, instrsFrom, instrs, readTable}
+use Rattle.file.specs.FileLaws.{inputs-room, header-is, file-is, file-refused-positive, field-there, field-good, rule-good, holding-good}
+use Rattle.table.specs.Table.{Instr, Assign, Test, IfThenGoto, assign, test, ifThenGoto, instr, instrsFrom, instrs}
+use Rattle.table.specs.Table.{isTable, readTable}
 
 -- ---- a record by its kind
 
@@ -82,7 +84,9 @@ instr-low S n (k ∷ bs) =
 -- a refused table's reply is not 0
 pub table-refused-positive : (b : List ℕ) (r at : ℕ) → readTable b ≡ Refused r at → 0 < r
 unfolding readTable
-table-refused-positive b = file-refused-positive {St = Unit {0}} 1 1024 (λ S n u. instr S n) (λ u a. u) (λ S. tt) (λ S n u. instr-low S n) b
+table-refused-positive b =
+    file-refused-positive {St = Unit {0}} isTable 1024 (λ head n u. instr (head .inputs) n) (λ u a. u) (λ head. tt)
+    (λ head n u. instr-low (head .inputs) n) b
 
 -- ---- what a record that is read says
 
@@ -198,29 +202,33 @@ instr-ok S n (b ∷ bs) x o h = go x (says S n (b ∷ bs) (omega arith) x h)
     go x (says-goto e k l t p) = (t, ok 3 e p)
 
 pub record IsTable (s : List ℕ) (S : ℕ) (is : List Instr) : Type 0 where
-  pub inputs : S ≤ 64
+  pub inputs : S ≤ inputRoom
   pub count : length is ≡ headerCount s
   pub few : length is ≤ 1024
   pub ok : All (InstrOk S (length is)) is
 
-pub table-ok : (s : List ℕ) (S : ℕ) (is : List Instr) → All Byte s → readTable s ≡ Accepted S is → IsTable s S is
+pub table-ok : (s : List ℕ) (head : Head) (is : List Instr) → All Byte s → readTable s ≡ Accepted head is → IsTable s (head .inputs) is
 unfolding readTable
-table-ok s S is o h =
-    let f = file-is 1 1024 instrs s S is h in
-    let g = header-is 1 1024 s (f .header) in
+table-ok s head is o h =
+    let f = file-is isTable 1024 instrs s head is h in
+    let g = header-is isTable 1024 s (f .header) in
+    let S = head .inputs in
     let n = headerCount s in
     let c = records-chain {St = Unit {0}} (λ u. instr S n) (λ u a. u) s (λ u. InstrOk S n)
-    (λ u l m a q. instr-ok S n (take l (drop m s)) a (all-take Byte l (drop m s) (all-drop Byte m s o)) q) n 6 tt is (f .read) in
+    (λ u l m a q. instr-ok S n (take l (drop m s)) a (all-take Byte l (drop m s) (all-drop Byte m s o)) q) n (headerSize s) tt is (f .read)
+    in
     let k : length is ≡ n = c .1 in
     record {
-      inputs = omega (arith, g .inputs, f .inputs);
+      inputs = omega (arith, g .inputs, f .inputs, inputs-room (headerVersion s));
       count = k;
       few = omega (arith, g .count);
       ok = subst (λ n. All (InstrOk S n) is)
           (sym k) (all n is (c .0));
     }
   where
-    all : (n : ℕ) (xs : List Instr) → Chain {St = Unit {0}} (λ u. instr S n) (λ u a. u) s (λ u. InstrOk S n) tt xs → All (InstrOk S n) xs
+    all : (n : ℕ) (xs : List Instr)
+        → Chain {St = Unit {0}} (λ u. instr (head .inputs) n) (λ u a. u) s (λ u. InstrOk (head .inputs) n) tt xs
+        → All (InstrOk (head .inputs) n) xs
     all n [] c = tt
     all n (x ∷ xs) c = (c .0, all n xs (c .1))
 
@@ -255,6 +263,6 @@ record-more S T n bs x h g =
 -- ---- the header
 
 -- an accepted file's inputs are its header's
-pub table-inputs : (t : List ℕ) (S : ℕ) (is : List Instr) → readTable t ≡ Accepted S is → headerInputs t ≡ S
+pub table-inputs : (t : List ℕ) (head : Head) (is : List Instr) → readTable t ≡ Accepted head is → headerInputs t ≡ head .inputs
 unfolding readTable
-table-inputs t S is q = file-is 1 1024 instrs t S is q .inputs
+table-inputs t head is q = file-is isTable 1024 instrs t head is q .inputs

@@ -2,6 +2,7 @@
 pub mod read;
 mod steps;
 
+use file::INPUT_ROOM;
 ghost use Rattle.table.specs.Answer.{RunAnswered};
 
 // Document 01's answer to running: a reply and its offset, 0 safe or 1 unsafe with its place, the back jumps taken.
@@ -26,11 +27,11 @@ pub fn run(table: &[u8], bound: u64, words: &[u32]) -> Answer
     if 255 < bound {
         return steps::refused(8, 0);
     }
-    if words.len() != table[3] as usize {
+    if words.len() != file::inputs_of(table) {
         return steps::refused(11, 0);
     }
     let n = t.count;
-    let mut vals: [u32; 64] = [0; 64];
+    let mut vals: [u32; INPUT_ROOM] = [0; INPUT_ROOM];
     file::copy_words(words, &mut vals);
     steps::run_from(table, &offsets, n, bound as usize, &mut vals)
 }

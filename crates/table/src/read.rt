@@ -9,7 +9,8 @@ ghost use Rattle.expr.specs.declared.File.the-variants.{Table};
 ghost use Rattle.expr.specs.Number.{numberOf};
 ghost use Rattle.expr.specs.Expr.{below, parse};
 ghost use Rattle.file.specs.Shown.{replyOf, exprReply};
-ghost use Rattle.table.specs.Table.{instr};
+ghost use Rattle.file.specs.File.{headerSize};
+ghost use Rattle.table.specs.Table.{instr, isTable};
 ghost use Rattle.table.specs.Shown.{exprStart, exprPart, ReadRecords, ReadTable};
 
 // The expression from a place of a record on: 0, or 7.
@@ -56,10 +57,10 @@ fn body_reply(body: &[u8], inputs: usize, n: usize) -> u8
 
 // Reads the records after the header, and stores their offsets.
 fn read_records(table: &[u8], inputs: usize, n: usize, offsets: &mut [u16]) -> Reading
-    requires { ⌜ (6 ≤ length (now table)) × (length (now table) < 65536) × (n ≤ length (now offsets)) ⌝ }
+    requires { ⌜ (headerSize (now table) ≤ length (now table)) × (length (now table) < 65536) × (n ≤ length (now offsets)) ⌝ }
     ensures { λ r. ⌜ ReadRecords (now (table .entry)) inputs n (now (offsets .entry)) (now (offsets .exit)) r ⌝ }
 {
-    let mut at: usize = 6;
+    let mut at = file::header_size(table);
     let mut k: usize = 0;
     while k < n {
         let len = file::frame_at(table, at);
@@ -96,12 +97,19 @@ fn read_records(table: &[u8], inputs: usize, n: usize, offsets: &mut [u16]) -> R
     }
 }
 
+fn is_table(version: u8) -> bool
+    ensures { λ r. ⌜ r ≡ isTable version ⌝ }
+{
+    version == 1
+}
+
 // Reads any bytes as a table: the reply that they get, with its offset, or 0 with the offsets of all records stored.
 pub fn read_table(table: &[u8], offsets: &mut [u16]) -> Reading
     requires { ⌜ 1024 ≤ length (now offsets) ⌝ }
     ensures { λ r. ⌜ ReadTable (now (table .entry)) (now (offsets .entry)) (now (offsets .exit)) r ⌝ }
 {
-    let head = file::header_reply(table, 1, 1024);
+    let known = is_table(file::version_of(table));
+    let head = file::header_reply(table, known, 1024);
     if head != 0 {
         return Reading {
             reply: head,
@@ -109,8 +117,8 @@ pub fn read_table(table: &[u8], offsets: &mut [u16]) -> Reading
             count: 0,
         };
     }
-    let inputs = table[3] as usize;
-    let n = number::two_at(table, 4);
+    let inputs = file::inputs_of(table);
+    let n = file::count_of(table);
     read_records(table, inputs, n, offsets)
 }
 

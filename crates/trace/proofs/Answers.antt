@@ -9,12 +9,12 @@ use borrow.Author.Tests.{eq-eqb, ne-eqb}
 use Rattle.expr.specs.Lists.{All}
 use Rattle.expr.specs.Number.{Byte}
 use Rattle.expr.specs.Eval.{envOf}
-use Rattle.file.specs.File.{headerInputs, headerCount, headerReply, Body, Accepted, Refused}
+use Rattle.file.specs.File.{Head, headerInputs, headerCount, headOf, headerReply, Body, Accepted, Refused}
 use Rattle.file.specs.Shown.{listed}
 use Rattle.file.specs.FileLaws.{Header}
 use Rattle.file.specs.ReadingLaws as Reading
 use Rattle.file.specs.declared.Reading.{Reading}
-use Rattle.trace.specs.Trace.{Stmt, Seen, see, atFirst, stmt, readTrace}
+use Rattle.trace.specs.Trace.{Stmt, Seen, see, atFirst, stmt, isTrace, readTrace}
 use Rattle.trace.specs.TraceLaws.{stmt-low}
 use Rattle.trace.specs.Judge.{judge}
 use Rattle.trace.specs.Answer.{refusal, answerOf, answered, judgeAnswer}
@@ -22,39 +22,42 @@ use Rattle.trace.specs.Shown.{ReadRecords, ReadTrace, Ready}
 
 -- ---- the trace is read
 
-abbrev one : (S n : ℕ) → Seen → List ℕ → Body Stmt
-one S n = stmt (S + 4096)
+abbrev one : (head : Head) (n : ℕ) → Seen → List ℕ → Body Stmt
+one head n = stmt (head .inputs + 4096)
+
+abbrev first : (head : Head) → Seen
+first head = atFirst (head .inputs)
 
 module _ (s : List ℕ) where
-  pub header-read : (r : ℕ) → r ≡ headerReply 129 4096 s → (r ≡ 0 → ⊥) → (off : List ℕ)
+  pub header-read : (r : ℕ) → r ≡ headerReply isTrace 4096 s → (r ≡ 0 → ⊥) → (off : List ℕ)
       → ReadTrace s off off (record { reply = r; offset = 0; count = 0 })
   unfolding readTrace
-  header-read = Reading.header-read 129 4096 one see atFirst s
+  header-read = Reading.header-read isTrace 4096 one see first s
 
-  -- with the code's own count of records
-  pub records-read : headerReply 129 4096 s ≡ 0 → (n : ℕ) → n ≡ headerCount s → {off off′ : List ℕ} {r : Reading}
-      → ReadRecords s (headerInputs s) n off off′ r → ReadTrace s off off′ r
+  -- with the code's own numbers of inputs and records
+  pub records-read : headerReply isTrace 4096 s ≡ 0 → {S n : ℕ} → S ≡ headerInputs s → n ≡ headerCount s → {off off′ : List ℕ} {r : Reading}
+      → ReadRecords s S n off off′ r → ReadTrace s off off′ r
   unfolding readTrace
-  records-read h n e {off} {off′} {r} w = Reading.records-read 129 4096 one see atFirst s h
-      (subst (λ n. ReadRecords s (headerInputs s) n off off′ r) e w)
+  records-read h {S} {n} i e {off} {off′} {r} w = Reading.records-read isTrace 4096 one see first s h
+      (subst (λ n. ReadRecords s (headerInputs s) n off off′ r) e (subst (λ S. ReadRecords s S n off off′ r) i w))
 
 module _ {s off off′ : List ℕ} {r : Reading} (w : ReadTrace s off off′ r) where
   pub offset-small : All Byte s → r .offset < 65536
   unfolding readTrace
-  offset-small = Reading.offset-small 129 4096 one see atFirst s w
+  offset-small = Reading.offset-small isTrace 4096 one see first s w
 
   module _ (h : r .reply ≡ 0) where
-    pub trace-accepted : readTrace s ≡ Accepted (headerInputs s) (listed (readTrace s))
+    pub trace-accepted : readTrace s ≡ Accepted (headOf s) (listed (readTrace s))
     unfolding readTrace
-    trace-accepted = Reading.is-accepted 129 4096 one see atFirst s w (λ S n. stmt-low (S + 4096)) h
+    trace-accepted = Reading.is-accepted isTrace 4096 one see first s w (λ head n. stmt-low (head .inputs + 4096)) h
 
-    pub right-header : Header 129 4096 s
+    pub right-header : Header isTrace 4096 s
     unfolding readTrace
-    right-header = Reading.right-header 129 4096 one see atFirst s w (λ S n. stmt-low (S + 4096)) h
+    right-header = Reading.right-header isTrace 4096 one see first s w (λ head n. stmt-low (head .inputs + 4096)) h
 
     pub is-ready : 4096 ≤ length off → Ready s off′ (r .count)
     unfolding readTrace
-    is-ready = Reading.is-ready 129 4096 one see atFirst s w (λ S n. stmt-low (S + 4096)) h
+    is-ready = Reading.is-ready isTrace 4096 one see first s w (λ head n. stmt-low (head .inputs + 4096)) h
 
 -- ---- the answer
 
@@ -63,13 +66,14 @@ module _ (s words : List ℕ) where
   unfolding judgeAnswer
   trace-refuses r at e = sym (ap (answered words) e)
 
-  module _ (S : ℕ) (ts : List Stmt) (e : readTrace s ≡ Accepted S ts) where
-    opened : judgeAnswer s words ≡ cond (eqb (length words) S) (answerOf (judge ts (envOf words))) (refusal 11 0)
+  module _ (head : Head) (ts : List Stmt) (e : readTrace s ≡ Accepted head ts) where
+    opened : judgeAnswer s words ≡ cond (eqb (length words) (head .inputs)) (answerOf (judge ts (envOf words))) (refusal 11 0)
     unfolding judgeAnswer
     opened = ap (answered words) e
 
-    pub valuation-refused : (length words ≡ S → ⊥) → refusal 11 0 ≡ judgeAnswer s words
-    valuation-refused n = sym (opened ∙ rw (ne-eqb (length words) S n))
+    pub valuation-refused : (length words ≡ head .inputs → ⊥) → refusal 11 0 ≡ judgeAnswer s words
+    valuation-refused n = sym (opened ∙ rw (ne-eqb (length words) (head .inputs) n))
 
-    pub judged : length words ≡ S → (cells : List ℕ) → envOf cells ≡ envOf words → answerOf (judge ts (envOf cells)) ≡ judgeAnswer s words
-    judged l cells v = ap (λ σ. answerOf (judge ts σ)) v ∙ sym (opened ∙ rw (eq-eqb (length words) S l))
+    pub judged : length words ≡ head .inputs → (cells : List ℕ) → envOf cells ≡ envOf words
+        → answerOf (judge ts (envOf cells)) ≡ judgeAnswer s words
+    judged l cells v = ap (λ σ. answerOf (judge ts σ)) v ∙ sym (opened ∙ rw (eq-eqb (length words) (head .inputs) l))

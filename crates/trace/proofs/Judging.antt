@@ -10,16 +10,16 @@ use borrow.Author.Tests.{lt-ltb, ltb-true}
 use Rattle.expr.specs.Word.{truthy}
 use Rattle.expr.specs.Eval.{Env, envOf, value}
 use Rattle.file.specs.Outcome.{Outcome, Failed, verdict, placeOf}
-use Rattle.file.specs.File.{headerCount, Good, Input, Accepted, Refused}
-use Rattle.file.specs.Shown.{offsetsFrom, isAccepted, listed}
-use Rattle.file.specs.FileLaws.{header-is, file-is, records-chain}
+use Rattle.file.specs.File.{inputRoom, headerVersion, headerSize, headerCount, Good, Input, Accepted, Refused}
+use Rattle.file.specs.Shown.{offsetsIn, isAccepted, listed}
+use Rattle.file.specs.FileLaws.{inputs-room, header-is, file-is, records-chain}
 use Rattle.trace.specs.declared.steps.Move.{Move}
 use Rattle.trace.specs.declared.steps.Move.the-variants as M
-use Rattle.trace.specs.Trace.{Stmt, Assign, Test, atFirst, see, stmt, stmts, readTrace}
-use Rattle.trace.specs.TraceLaws.{Wider, stmt-at}
+use Rattle.trace.specs.Trace.{Stmt, Assign, Test, atFirst, see, stmt, stmts, isTrace, readTrace}
+use Rattle.trace.specs.TraceLaws.{Wider, symbol-room, stmt-at}
 use Rattle.trace.specs.Judge.{judge}
 use Rattle.trace.specs.Answer.{answerOf}
-use Rattle.trace.specs.Shown.{loose, held, Next, Halt, On, step, stepBody, Moved}
+use Rattle.trace.specs.Shown.{symbolRoom, loose, held, Next, Halt, On, step, stepBody, Moved}
 
 -- ---- an accepted trace
 
@@ -27,25 +27,31 @@ pub record Loaded (s : List ℕ) (ts : List Stmt) : Type 0 where
   pub count : length ts ≡ headerCount s
   pub few : length ts ≤ 4096
   pub stands : (i : ℕ) (x : Stmt) (xs : List Stmt) → drop i ts ≡ x ∷ xs
-      → held (drop (getD (offsetsFrom (headerCount s) 6 (drop 6 s)) i 0) s) ≡ Good x
+      → held (drop (getD (offsetsIn (headerCount s) s) i 0) s) ≡ Good x
 
 pub loaded : (s : List ℕ) → isAccepted (readTrace s) ≡ true → Loaded s (listed (readTrace s))
 unfolding readTrace
 loaded s h = go (readTrace s) refl h
   where
-    wide : (S : ℕ) → S ≤ 64 → Wider (S + 4096) (atFirst S) 4160 loose
-    wide S k = record { higher = omega arith; lower = omega arith; reads = λ x q. lt-ltb x 4160 (omega (arith, ltb-true x S q)) }
+    wide : (S : ℕ) → S ≤ inputRoom → Wider (S + 4096) (atFirst S) symbolRoom loose
+    wide S k = record {
+      higher = omega (arith, symbol-room);
+      lower = omega arith;
+      reads = λ x q. lt-ltb x symbolRoom (omega (arith, symbol-room, ltb-true x S q));
+    }
 
     go : (x : Input Stmt) → readTrace s ≡ x → isAccepted x ≡ true → Loaded s (listed (readTrace s))
-    go (Accepted S ts) e h =
-        let f = file-is 129 4096 stmts s S ts e in
-        let g = header-is 129 4096 s (f .header) in
-        let k : length ts ≡ headerCount s = records-chain (stmt (S + 4096)) see s (λ σ a. Unit {0}) (λ σ l m a q. tt) (headerCount s) 6
-        (atFirst S) ts (f .read) .1 in
+    go (Accepted head ts) e h =
+        let f = file-is isTrace 4096 stmts s head ts e in
+        let g = header-is isTrace 4096 s (f .header) in
+        let S = head .inputs in
+        let k : length ts ≡ headerCount s = records-chain (stmt (S + 4096)) see s (λ σ a. Unit {0}) (λ σ l m a q. tt) (headerCount s)
+        (headerSize s) (atFirst S) ts (f .read) .1 in
         subst (Loaded s) (sym (ap listed e)) (record {
           count = k;
           few = omega (arith, g .count);
-          stands = stmt-at s S (headerCount s) 6 (atFirst S) (wide S (omega (arith, g .inputs, f .inputs))) ts (f .read);
+          stands = stmt-at s S (headerCount s) (headerSize s) (atFirst S)
+              (wide S (omega (arith, g .inputs, f .inputs, inputs-room (headerVersion s)))) ts (f .read);
         })
     go (Refused r f) e h = absurd (let z : _≡_ {A = ℕ} 0 1 = cc in omega arith)
 
@@ -81,7 +87,7 @@ unfolding judge
 end {ts = ts} {cells = cells} {k = k} w h = ap answerOf (sym (ap (λ xs. judge xs (envOf cells)) (drop-of-length-le ts {i = k} h)) ∙ w .same)
 
 module _ (s off : List ℕ) (n : ℕ) (ts : List Stmt) (l : Loaded s ts) (q : n ≡ headerCount s)
-    (st : (i : ℕ) → i < n → getD off i 0 ≡ getD (offsetsFrom n 6 (drop 6 s)) i 0) where
+    (st : (i : ℕ) → i < n → getD off i 0 ≡ getD (offsetsIn n s) i 0) where
   pub record Here (k : ℕ) : Type 0 where
     pub statement : Stmt
     pub after : List Stmt
@@ -97,7 +103,7 @@ module _ (s off : List ℕ) (n : ℕ) (ts : List Stmt) (l : Loaded s ts) (q : n 
         statement = x;
         after = xs;
         is-here = e;
-        good = ap (λ o. held (drop o s)) (st k h ∙ ap (λ n. getD (offsetsFrom n 6 (drop 6 s)) k 0) q) ∙ l .stands k x xs e;
+        good = ap (λ o. held (drop o s)) (st k h ∙ ap (λ n. getD (offsetsIn n s) k 0) q) ∙ l .stands k x xs e;
       }
 
   module _ (cells₀ : List ℕ) {cells : List ℕ} {k : ℕ} (w : Judging ts cells₀ cells k) (h : k < n) (m : Move) (cells′ : List ℕ)

@@ -16,20 +16,20 @@ use Rattle.trace.specs.declared.steps.Move.{Move}
 use Rattle.trace.specs.declared.steps.Move.the-variants as M
 use Rattle.trace.specs.Trace.{Stmt, Assign, Test}
 use Rattle.file.specs.Shown.{kindOf}
-use Rattle.trace.specs.Shown.{loose, held, exprPart, exprOf, valueIn, step, stepBody, Moved, endOf}
+use Rattle.trace.specs.Shown.{symbolRoom, loose, held, exprPart, exprOf, valueIn, step, stepBody, Moved, endOf}
 use Rattle.trace.proofs.Held.{Held}
 
-module _ {s : List ℕ} {at : ℕ} (h : Held 4160 loose s at) where
+module _ {s : List ℕ} {at : ℕ} (h : Held symbolRoom loose s at) where
   -- with the code's own number of symbols
-  pub expr-whole : (T : ℕ) → T ≡ 4160 → {e : List ℕ} → e ≡ exprPart s at → parse Trace (below T) e ≡ Whole (exprOf (h .statement))
+  pub expr-whole : (T : ℕ) → T ≡ symbolRoom → {e : List ℕ} → e ≡ exprPart s at → parse Trace (below T) e ≡ Whole (exprOf (h .statement))
   expr-whole T t q = ap₂ (λ T e. parse Trace (below T) e) t q ∙ h .parsed
 
-  pub expr-value : (ρ : Env) (T : ℕ) → T ≡ 4160 → {e : List ℕ} → e ≡ exprPart s at
+  pub expr-value : (ρ : Env) (T : ℕ) → T ≡ symbolRoom → {e : List ℕ} → e ≡ exprPart s at
       → valueOf ρ (parse Trace (below T) e) ≡ valueIn (held (drop at s)) ρ
   unfolding value
   expr-value ρ T t q = ap (valueOf ρ) (expr-whole T t q) ∙ sym (ap (λ b. valueIn b ρ) (h .is))
 
-module _ {s : List ℕ} {at : ℕ} (h : Held 4160 loose s at) (cells : List ℕ) (w : ℕ) (v : w ≡ valueIn (held (drop at s)) (envOf cells)) where
+module _ {s : List ℕ} {at : ℕ} (h : Held symbolRoom loose s at) (cells : List ℕ) (w : ℕ) (v : w ≡ valueIn (held (drop at s)) (envOf cells)) where
   abbrev ρ : Env
   ρ = envOf cells
 
@@ -41,7 +41,7 @@ module _ {s : List ℕ} {at : ℕ} (h : Held 4160 loose s at) (cells : List ℕ)
       → Moved (stepBody (held (drop at s)) ρ) m cells′
   by m cells′ x e k = subst (λ b. Moved (stepBody b ρ) m cells′) (sym (h .is)) (subst (λ y. Moved (step y ρ) m cells′) (sym e) k)
 
-  pub assign-moves : length cells ≡ 4160 → (y : ℕ) → getD s (at + 2) 0 ≡ 1 → y ≡ numberOf 2 (drop (at + 5) s)
+  pub assign-moves : length cells ≡ symbolRoom → (y : ℕ) → getD s (at + 2) 0 ≡ 1 → y ≡ numberOf 2 (drop (at + 5) s)
       → Moved (stepBody (held (drop at s)) ρ) M.Go (set cells y w)
   assign-moves long y k q =
       let a = h .assigns k in

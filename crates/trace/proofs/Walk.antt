@@ -11,12 +11,12 @@ use borrow.Author.Tests.{eqb-true, eqb-false}
 use Rattle.expr.specs.Lists.{or-right, or-false}
 use Rattle.expr.specs.Token.{Token}
 use Rattle.expr.specs.Expr.{readable}
-use Rattle.file.specs.File.{Body, Good, frame, recordOf}
+use Rattle.file.specs.File.{inputRoom, headerSize, Body, Good, frame, recordOf}
 use Rattle.file.specs.FileLaws.{same-everywhere}
 use Rattle.file.specs.WalkLaws as Records
 use Rattle.trace.specs.Trace.{Stmt, Assign, Test, Seen, atFirst, see, stmt}
-use Rattle.trace.specs.TraceLaws.{assigned-below}
-use Rattle.trace.specs.Shown.{seen, leastAfter, mark, markedBy}
+use Rattle.trace.specs.TraceLaws.{symbol-room, assigned-below}
+use Rattle.trace.specs.Shown.{symbolRoom, seen, leastAfter, mark, markedBy}
 
 -- ---- the array of marks follows the definition's state
 
@@ -50,19 +50,19 @@ none-marked S n =
 
 pub record Walking (s : List ℕ) (S n : ℕ) (off₀ : List ℕ) (off : List ℕ) (marks : List Bool) (at k least : ℕ) : Type 0 where
   pub walk : Records.Walking (stmt (S + 4096)) see s n (atFirst S) off₀ off at k (seen S least marks)
-  pub long : length marks ≡ 4160
+  pub long : length marks ≡ symbolRoom
 
 module _ (s : List ℕ) (S n : ℕ) (off₀ : List ℕ) where
-  pub start : 6 ≤ length s → Walking s S n off₀ off₀ (replicate 4160 false) 6 0 S
-  start h = record {
+  pub start : {at : ℕ} → at ≡ headerSize s → headerSize s ≤ length s → Walking s S n off₀ off₀ (replicate symbolRoom false) at 0 S
+  start {at} e h = record {
     walk =
-        subst (Records.Walking (stmt (S + 4096)) see s n (atFirst S) off₀ off₀ 6 0) (sym (none-marked S 4160))
-        (Records.start (stmt (S + 4096)) see s n (atFirst S) off₀ h);
-    long = length-replicate 4160 false;
+        subst (Records.Walking (stmt (S + 4096)) see s n (atFirst S) off₀ off₀ at 0) (sym (none-marked S symbolRoom))
+        (Records.start (stmt (S + 4096)) see s n (atFirst S) off₀ e h);
+    long = length-replicate symbolRoom false;
   }
 
   -- with the code's own length of the record, marks and least symbol
-  pub on : S ≤ 64 → {off : List ℕ} {marks : List Bool} {at k least : ℕ} → Walking s S n off₀ off marks at k least → k < n
+  pub on : S ≤ inputRoom → {off : List ℕ} {marks : List Bool} {at k least : ℕ} → Walking s S n off₀ off marks at k least → k < n
       → (x : Stmt) → recordOf (stmt (S + 4096) (seen S least marks)) (drop at s) ≡ Good x → (len : ℕ) → len ≡ frame (drop at s)
       → at + (2 + len) ≤ length s
       → (marks′ : List Bool) → marks′ ≡ markedBy (recordOf (stmt (S + 4096) (seen S least marks)) (drop at s)) marks
@@ -71,7 +71,7 @@ module _ (s : List ℕ) (S n : ℕ) (off₀ : List ℕ) where
   on small {off} {marks} {at} {k} {least} w h x e len le i marks′ me least′ se =
       let σ = seen S least marks in
       let small-enough : (p y : ℕ) (t : List Token) → x ≡ Assign p y t → y < length marks
-      = λ p y t q. omega (arith, assigned-below (S + 4096) σ (drop at s) p y t (e ∙ ap {B = Body Stmt} Good q), w .long, small) in
+      = λ p y t q. omega (arith, assigned-below (S + 4096) σ (drop at s) p y t (e ∙ ap {B = Body Stmt} Good q), w .long, small, symbol-room) in
       let walking : Walking s S n off₀ (set off k at) (mark marks x) (at + (2 + len)) (k + 1) (leastAfter (Good x) least) = record {
         walk =
             subst (Records.Walking (stmt (S + 4096)) see s n (atFirst S) off₀ (set off k at) (at + (2 + len)) (k + 1))

@@ -22,7 +22,7 @@ answerOf o = record { reply = 0; offset = 0; verdict = verdict o; place = placeO
 -- after the trace's own refusals, 11
 abbrev pub answered : (words : List ℕ) → Input Stmt → Answer
 answered words (Refused reply offset) = refusal reply offset
-answered words (Accepted S ts) = cond (eqb (length words) S) (answerOf (judge ts (envOf words))) (refusal 11 0)
+answered words (Accepted head ts) = cond (eqb (length words) (head .inputs)) (answerOf (judge ts (envOf words))) (refusal 11 0)
 
 unfoldable pub judgeAnswer : (trace words : List ℕ) → Answer
 judgeAnswer trace words = answered words (readTrace trace)

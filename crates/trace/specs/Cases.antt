@@ -12,6 +12,8 @@ use Rattle.trace.specs.declared.Answer.{Answer}
 use Rattle.trace.specs.Trace.{stmt, readTrace}
 use Rattle.trace.specs.Judge.{judge}
 use Rattle.trace.specs.Answer.{refusal, judgeAnswer}
+use Rattle.file.specs.File.{headSize, headerInputs, headerCount, inputsLimit, inputRoom}
+use Rattle.trace.specs.Trace.{isTrace, traceVersion}
 
 abbrev pub safe : Answer
 safe = record { reply = 0; offset = 0; verdict = 0; place = 0 }
@@ -94,19 +96,23 @@ smallTrace1 =
     ∷ 0x03 ∷ 0x00 ∷ 0x06 ∷ 0x30 ∷ []
 
 pub m1 : judgeAnswer smallTrace0 (0 ∷ []) ≡ unsafeAt 3
-unfolding judgeAnswer readTrace readFile headerReply records recordOf frame stmt parseFrom readToken operator fits judge value unary binary
+unfolding judgeAnswer readTrace isTrace traceVersion readFile headerReply headSize headerInputs headerCount inputsLimit inputRoom records
+    recordOf frame stmt parseFrom readToken operator fits judge value unary binary
 m1 = refl
 
 pub m2 : judgeAnswer smallTrace0 (1 ∷ []) ≡ safe
-unfolding judgeAnswer readTrace readFile headerReply records recordOf frame stmt parseFrom readToken operator fits judge value unary binary
+unfolding judgeAnswer readTrace isTrace traceVersion readFile headerReply headSize headerInputs headerCount inputsLimit inputRoom records
+    recordOf frame stmt parseFrom readToken operator fits judge value unary binary
 m2 = refl
 
 pub m3 : judgeAnswer smallTrace1 (1 ∷ []) ≡ unsafeAt 8
-unfolding judgeAnswer readTrace readFile headerReply records recordOf frame stmt parseFrom readToken operator fits judge value unary binary
+unfolding judgeAnswer readTrace isTrace traceVersion readFile headerReply headSize headerInputs headerCount inputsLimit inputRoom records
+    recordOf frame stmt parseFrom readToken operator fits judge value unary binary
 m3 = refl
 
 pub m4 : judgeAnswer smallTrace1 (2 ∷ []) ≡ safe
-unfolding judgeAnswer readTrace readFile headerReply records recordOf frame stmt parseFrom readToken operator fits judge value unary binary
+unfolding judgeAnswer readTrace isTrace traceVersion readFile headerReply headSize headerInputs headerCount inputsLimit inputRoom records
+    recordOf frame stmt parseFrom readToken operator fits judge value unary binary
 m4 = refl
 
 -- the trace of a table without instructions
@@ -121,7 +127,8 @@ noInstructions =
     ∷ 0x03 ∷ 0x00 ∷ 0x00 ∷ 0x30 ∷ []
 
 pub m11 : judgeAnswer noInstructions [] ≡ safe
-unfolding judgeAnswer readTrace readFile headerReply records recordOf frame stmt parseFrom readToken operator fits judge value unary binary
+unfolding judgeAnswer readTrace isTrace traceVersion readFile headerReply headSize headerInputs headerCount inputsLimit inputRoom records
+    recordOf frame stmt parseFrom readToken operator fits judge value unary binary
 m11 = refl
 
 -- source 000's example: s1 = s0 + 1 at 0; assert s1 ult 10 at 1
@@ -134,7 +141,8 @@ example =
     ∷ 0x03 ∷ 0x00 ∷ 0x01 ∷ 0x01 ∷ 0x00 ∷ 0x00 ∷ 0x00 ∷ 0x0A ∷ 0x2B ∷ []
 
 pub m12 : (judgeAnswer example (5 ∷ []) ≡ safe) × (judgeAnswer example (10 ∷ []) ≡ unsafeAt 1) × (judgeAnswer example [] ≡ refusal 11 0)
-unfolding judgeAnswer readTrace readFile headerReply records recordOf frame stmt parseFrom readToken operator fits judge value unary binary
+unfolding judgeAnswer readTrace isTrace traceVersion readFile headerReply headSize headerInputs headerCount inputsLimit inputRoom records
+    recordOf frame stmt parseFrom readToken operator fits judge value unary binary
 m12 = (refl, refl, refl)
 
 -- ---- refusals, of traces without inputs
@@ -165,7 +173,8 @@ sentences : (judgeAnswer (traceOf 16 1 fails) [] ≡ unsafeAt 7) × (judgeAnswer
     × (judgeAnswer (traceOf 28 2 (one 1 ++ copies 2 1)) [] ≡ safe) × (judgeAnswer (traceOf 30 2 (one 1 ++ one 1)) [] ≡ refusal 6 18)
     × (judgeAnswer (traceOf 30 2 (one 1 ++ one 0)) [] ≡ refusal 6 18)
     × (judgeAnswer (traceOf 16 1 (copies 0 0)) [] ≡ refusal 7 6) × (judgeAnswer (traceOf 28 2 (one 1 ++ copies 2 0)) [] ≡ refusal 7 18)
-unfolding judgeAnswer readTrace readFile headerReply records recordOf frame stmt parseFrom readToken operator fits judge value unary binary
+unfolding judgeAnswer readTrace isTrace traceVersion readFile headerReply headSize headerInputs headerCount inputsLimit inputRoom records
+    recordOf frame stmt parseFrom readToken operator fits judge value unary binary
 sentences = (refl, refl, refl, refl, refl, refl, refl, refl, refl)
 
 -- at place p a test of a constant below 256
@@ -181,7 +190,8 @@ places : (judgeAnswer (traceOf 26 2 (testOf 3 0xFF 2 ++ testOf 3 0xFE 0)) [] ≡
     × (judgeAnswer (traceOf 16 1 (testOf 3 0xFF 0)) [] ≡ unsafeAt 65535)
     × (judgeAnswer (traceOf 26 2 (testOf 2 0xFF 2 ++ testOf 3 0xFF 0)) [] ≡ unsafeAt 65535)
     × (judgeAnswer (traceOf 16 1 failsAtZero) [] ≡ unsafeAt 0)
-unfolding judgeAnswer readTrace readFile headerReply records recordOf frame stmt parseFrom readToken operator fits judge value
+unfolding judgeAnswer readTrace isTrace traceVersion readFile headerReply headSize headerInputs headerCount inputsLimit inputRoom records
+    recordOf frame stmt parseFrom readToken operator fits judge value
 places = (refl, refl, refl, refl)
 
 -- ---- limits
@@ -200,7 +210,8 @@ highest S high low =
 symbols : (judgeAnswer (highest 0 0x0F 0xFF) [] ≡ unsafeAt 9) × (judgeAnswer (highest 0 0x10 0x00) [] ≡ refusedAt 6 6)
     × (judgeAnswer (highest 1 0x10 0x00) (7 ∷ []) ≡ unsafeAt 9) × (judgeAnswer (highest 1 0x10 0x01) (7 ∷ []) ≡ refusedAt 6 6)
     × (judgeAnswer (highest 64 0x10 0x40) [] ≡ refusedAt 6 6) × (judgeAnswer (highest 64 0x10 0x3F) [] ≡ refusedAt 11 0)
-unfolding judgeAnswer readTrace readFile headerReply records recordOf frame stmt parseFrom readToken operator fits judge value
+unfolding judgeAnswer readTrace isTrace traceVersion readFile headerReply headSize headerInputs headerCount inputsLimit inputRoom records
+    recordOf frame stmt parseFrom readToken operator fits judge value
 symbols = (refl, refl, refl, refl, refl, refl)
 
 -- at 7 an assert of symbol 0, so many times
@@ -219,5 +230,6 @@ tooMany = 0x81 ∷ 0x80 ∷ 0x0E ∷ 0x02 ∷ 0x10 ∷ 0x01 ∷ asserts 4097
 -- 4,096 statements are judged to the last, 4,097 are 4
 statements : (length most ≡ 32774) × (judgeAnswer most (1 ∷ 0 ∷ []) ≡ unsafeAt 8)
     × (length tooMany ≡ 32782) × (judgeAnswer tooMany (1 ∷ 0 ∷ []) ≡ refusedAt 4 0)
-unfolding judgeAnswer readTrace readFile headerReply records recordOf frame stmt parseFrom readToken operator fits judge value
+unfolding judgeAnswer readTrace isTrace traceVersion readFile headerReply headSize headerInputs headerCount inputsLimit inputRoom records
+    recordOf frame stmt parseFrom readToken operator fits judge value
 statements = (refl, refl, refl, refl)

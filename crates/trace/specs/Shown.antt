@@ -16,7 +16,7 @@ use Rattle.file.specs.Shown.{restOf, fileCount, ReadFile}
 use Rattle.file.specs.declared.Reading.{Reading}
 use Rattle.trace.specs.declared.steps.Move.{Move}
 use Rattle.trace.specs.declared.steps.Move.the-variants as M
-use Rattle.trace.specs.Trace.{Stmt, Assign, Test, Seen, atFirst, see, stmt, readTrace}
+use Rattle.trace.specs.Trace.{Stmt, Assign, Test, Seen, atFirst, see, stmt, isTrace, readTrace}
 
 -- ---- reading
 
@@ -43,7 +43,7 @@ ReadRecords trace S n before after r = File.ReadRecords (stmt (S + 4096)) see tr
 
 -- of a trace's records, how many are read before the first refusal
 abbrev pub stmtCount : (trace : List ℕ) → ℕ
-stmtCount trace = fileCount 129 4096 (λ S n. stmt (S + 4096)) see atFirst trace
+stmtCount trace = fileCount isTrace 4096 (λ head n. stmt (head .inputs + 4096)) see (λ head. atFirst (head .inputs)) trace
 
 -- the reading of a trace
 abbrev pub ReadTrace : (trace before after : List ℕ) → Reading → Type 0
@@ -55,12 +55,16 @@ Ready trace offsets n = File.Ready (readTrace trace) trace offsets n
 
 -- ---- judging
 
--- what every accepted statement keeps to: symbols below 4,160
+-- room for the symbols of any trace, its inputs and 4,096 assigned ones
+unfoldable pub symbolRoom : ℕ
+symbolRoom = 4160
+
+-- what every accepted statement keeps to
 abbrev pub loose : Seen
-loose = record { readable = below 4160; least = 0 }
+loose = record { readable = below symbolRoom; least = 0 }
 
 abbrev pub held : List ℕ → Body Stmt
-held bs = recordOf (stmt 4160 loose) bs
+held bs = recordOf (stmt symbolRoom loose) bs
 
 -- where the expression begins in a record, by its kind's code
 abbrev pub exprStart : (code : ℕ) → ℕ

@@ -9,7 +9,7 @@ use Rattle.expr.specs.Token.{Token, exprBytes}
 use Rattle.expr.specs.Expr.{below, parse}
 use Rattle.expr.specs.Eval.{reads}
 use Rattle.file.specs.Outcome.{Kind, Assume, Assert, Bound}
-use Rattle.file.specs.File.{Body, Bad, field, rule, holding, Records, records, Input, readFile, encode}
+use Rattle.file.specs.File.{Head, Body, Bad, field, rule, holding, Records, records, Input, readFile, encode}
 
 pub data Stmt : Type 0 where
   Assign : (place symbol : ℕ) → List Token → Stmt
@@ -53,12 +53,19 @@ stmt top σ (kind ∷ bs) =
 abbrev pub stmtsFrom : (S c : ℕ) → Seen → List ℕ → Records Stmt
 stmtsFrom S c σ bs = records (stmt (S + 4096)) see c σ bs
 
-abbrev pub stmts : (S n : ℕ) → List ℕ → Records Stmt
-stmts S n bs = stmtsFrom S n (atFirst S) bs
+abbrev pub stmts : (head : Head) (n : ℕ) → List ℕ → Records Stmt
+stmts head n bs = stmtsFrom (head .inputs) n (atFirst (head .inputs)) bs
 
--- version 129, at most 4,096 statements
+-- the version of a trace
+unfoldable pub traceVersion : ℕ
+traceVersion = 129
+
+unfoldable pub isTrace : (version : ℕ) → Bool
+isTrace version = eqb version traceVersion
+
+-- at most 4,096 statements
 unfoldable pub readTrace : List ℕ → Input Stmt
-readTrace bs = readFile 129 4096 stmts bs
+readTrace bs = readFile isTrace 4096 stmts bs
 
 -- ---- writing
 
@@ -72,8 +79,12 @@ abbrev pub stmtBytes : Stmt → List ℕ
 stmtBytes (Assign p x e) = 1 ∷ bytesOf 2 p ++ bytesOf 2 x ++ exprBytes Trace e
 stmtBytes (Test k p e) = kindCode k ∷ bytesOf 2 p ++ exprBytes Trace e
 
-abbrev pub encodeTrace : (S : ℕ) → List Stmt → List ℕ
-encodeTrace S ts = encode stmtBytes 129 S ts
+-- a trace of S inputs that is written anew
+abbrev pub traceHead : (S : ℕ) → Head
+traceHead S = record { version = traceVersion; inputs = S }
+
+abbrev pub encodeTrace : (head : Head) → List Stmt → List ℕ
+encodeTrace head ts = encode stmtBytes head ts
 
 -- ---- the symbols that are read
 

@@ -15,12 +15,12 @@ use Rattle.expr.specs.Token.{Token}
 use Rattle.expr.specs.Expr.{readable, Whole, parse}
 use Rattle.expr.specs.ExprLaws.{parse-more}
 use Rattle.file.specs.Outcome.{Kind, Assume, Assert}
-use Rattle.file.specs.File.{headerInputs, Body, Good, Bad, field, frame, Read, recordOf, Accepted}
+use Rattle.file.specs.File.{Head, inputRoom, headerInputs, headOf, Body, Good, Bad, field, frame, Read, recordOf, Accepted}
 use Rattle.file.specs.Shown.{offsetsFrom}
 use Rattle.file.specs.FileLaws.{Low, holding-low, cond-low, framed, record-framed, record-good, next-record, records-chain, file-is}
 use Rattle.file.specs.FileLaws.{field-there, field-good, rule-good, holding-good}
-use Rattle.trace.specs.Trace.{Stmt, Assign, Test, Seen, see, assign, assignAt, testAt, stmt, stmtsFrom, stmts, readTrace}
-use Rattle.trace.specs.Shown.{loose}
+use Rattle.trace.specs.Trace.{Stmt, Assign, Test, Seen, see, assign, assignAt, testAt, stmt, stmtsFrom, stmts, isTrace, readTrace}
+use Rattle.trace.specs.Shown.{symbolRoom, loose}
 
 -- ---- a record by its kind
 
@@ -182,22 +182,27 @@ assigned-below top σ bs p y e g =
 
 -- ---- where a statement stands
 
+-- inputs and assigned symbols have their places
+pub symbol-room : inputRoom + 4096 ≤ symbolRoom
+unfolding inputRoom symbolRoom
+symbol-room = omega arith
+
 -- what a statement allows to those after it is within what every accepted statement keeps to
-pub wider-after : (top : ℕ) (σ : Seen) → Wider top σ 4160 loose → (bs : List ℕ) (x : Stmt) → recordOf (stmt top σ) bs ≡ Good x
-    → Wider top (see σ x) 4160 loose
+pub wider-after : (top : ℕ) (σ : Seen) → Wider top σ symbolRoom loose → (bs : List ℕ) (x : Stmt) → recordOf (stmt top σ) bs ≡ Good x
+    → Wider top (see σ x) symbolRoom loose
 wider-after top σ w bs (Assign p x e) g = record {
   higher = w .higher;
   lower = omega arith;
   reads =
       λ y q. or-cases (eqb y x) (σ .readable y)
-      (λ z. lt-ltb y 4160 (omega (arith, eqb-true y x z, assigned-below top σ bs p x e g, w .higher))) (w .reads y) q;
+      (λ z. lt-ltb y symbolRoom (omega (arith, eqb-true y x z, assigned-below top σ bs p x e g, w .higher))) (w .reads y) q;
 }
 wider-after top σ w bs (Test k p e) g = w
 
-pub stmt-at : (s : List ℕ) (S c at : ℕ) (σ : Seen) → Wider (S + 4096) σ 4160 loose → (ts : List Stmt)
+pub stmt-at : (s : List ℕ) (S c at : ℕ) (σ : Seen) → Wider (S + 4096) σ symbolRoom loose → (ts : List Stmt)
     → stmtsFrom S c σ (drop at s) ≡ Read ts
     → (i : ℕ) (x : Stmt) (xs : List Stmt) → drop i ts ≡ x ∷ xs
-    → recordOf (stmt 4160 loose) (drop (getD (offsetsFrom c at (drop at s)) i 0) s) ≡ Good x
+    → recordOf (stmt symbolRoom loose) (drop (getD (offsetsFrom c at (drop at s)) i 0) s) ≡ Good x
 unfolding offsetsFrom
 stmt-at s S zero at σ w ts h i x xs d =
     absurd (let k = records-chain (stmt (S + 4096)) see s (λ σ a. Unit {0}) (λ σ l m a q. tt) 0 at σ ts h in
@@ -205,17 +210,20 @@ stmt-at s S zero at σ w ts h i x xs d =
 stmt-at s S (suc c) at σ w ts h zero x xs d =
     let k = next-record (stmt (S + 4096)) see s at c σ ts h in
     let e : k .head ≡ x = (let z = sym (k .is) ∙ d in cc) in
-    record-wider (S + 4096) σ 4160 loose w (drop at s) x (k .good ∙ ap {B = Body Stmt} Good e)
+    record-wider (S + 4096) σ symbolRoom loose w (drop at s) x (k .good ∙ ap {B = Body Stmt} Good e)
 stmt-at s S (suc c) at σ w ts h (suc i) x xs d =
     let k = next-record (stmt (S + 4096)) see s at c σ ts h in
     let l = 2 + frame (drop at s) in
-    ap (λ bs. recordOf (stmt 4160 loose) (drop (getD (offsetsFrom c (at + l) bs) i 0) s)) (drop-drop l at s)
+    ap (λ bs. recordOf (stmt symbolRoom loose) (drop (getD (offsetsFrom c (at + l) bs) i 0) s)) (drop-drop l at s)
     ∙ stmt-at s S c (at + l) (see σ (k .head)) (wider-after (S + 4096) σ w (drop at s) (k .head) (k .good)) (k .tail) (k .on) i x xs
     (sym (ap (drop (suc i)) (k .is)) ∙ d)
 
 -- ---- the header
 
--- an accepted file's inputs are its header's
-pub trace-inputs : (t : List ℕ) (S : ℕ) (ts : List Stmt) → readTrace t ≡ Accepted S ts → headerInputs t ≡ S
+-- what an accepted file's header says
+pub trace-head : (t : List ℕ) (head : Head) (ts : List Stmt) → readTrace t ≡ Accepted head ts → headOf t ≡ head
 unfolding readTrace
-trace-inputs t S ts q = file-is 129 4096 stmts t S ts q .inputs
+trace-head t head ts q = file-is isTrace 4096 stmts t head ts q .is
+
+pub trace-inputs : (t : List ℕ) (head : Head) (ts : List Stmt) → readTrace t ≡ Accepted head ts → headerInputs t ≡ head .inputs
+trace-inputs t head ts q = ap (λ h. h .inputs) (trace-head t head ts q)

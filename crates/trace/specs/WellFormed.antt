@@ -14,9 +14,9 @@ use Rattle.expr.specs.Expr.{Whole, parse}
 use Rattle.expr.specs.TokenLaws.{Holds}
 use Rattle.expr.specs.ExprLaws.{Ok, parse-accepted}
 use Rattle.file.specs.Outcome.{Kind, Assume, Assert, Bound}
-use Rattle.file.specs.File.{headerCount, Good, Accepted}
-use Rattle.file.specs.FileLaws.{Chain, records-chain, header-is, file-is}
-use Rattle.trace.specs.Trace.{Stmt, Assign, Test, Seen, atFirst, see, stmt, stmts, readTrace}
+use Rattle.file.specs.File.{Head, inputRoom, headerVersion, headerSize, headerCount, Good, Accepted}
+use Rattle.file.specs.FileLaws.{Chain, records-chain, inputs-room, header-is, file-is}
+use Rattle.trace.specs.Trace.{Stmt, Assign, Test, Seen, atFirst, see, stmt, stmts, isTrace, readTrace}
 use Rattle.trace.specs.TraceLaws.{Says, says-assign, says-assume, says-assert, says}
 
 -- the kinds of test that bytes tell: the bound's is written as an Assume
@@ -39,7 +39,7 @@ StmtsOk S σ [] = Unit {0}
 StmtsOk S σ (x ∷ ts) = StmtOk S σ x × StmtsOk S (see σ x) ts
 
 pub record IsTrace (s : List ℕ) (S : ℕ) (ts : List Stmt) : Type 0 where
-  pub inputs : S ≤ 64
+  pub inputs : S ≤ inputRoom
   pub count : length ts ≡ headerCount s
   pub few : length ts ≤ 4096
   pub ok : StmtsOk S (atFirst S) ts
@@ -58,17 +58,24 @@ stmt-ok S σ (b ∷ bs) x o h = go x (says (S + 4096) σ (b ∷ bs) (omega arith
     go x (says-assert e k l p) = (number-lt 2 bs (o .1), tt, ok 3 e p)
 
 -- what is read is well formed
-pub trace-ok : (s : List ℕ) (S : ℕ) (ts : List Stmt) → All Byte s → readTrace s ≡ Accepted S ts → IsTrace s S ts
+pub trace-ok : (s : List ℕ) (head : Head) (ts : List Stmt) → All Byte s → readTrace s ≡ Accepted head ts → IsTrace s (head .inputs) ts
 unfolding readTrace
-trace-ok s S ts o h =
-    let f = file-is 129 4096 stmts s S ts h in
-    let g = header-is 129 4096 s (f .header) in
+trace-ok s head ts o h =
+    let f = file-is isTrace 4096 stmts s head ts h in
+    let g = header-is isTrace 4096 s (f .header) in
+    let S = head .inputs in
     let c = records-chain (stmt (S + 4096)) see s (StmtOk S)
-    (λ σ l m a q. stmt-ok S σ (take l (drop m s)) a (all-take Byte l (drop m s) (all-drop Byte m s o)) q) (headerCount s) 6 (atFirst S) ts
-    (f .read) in
+    (λ σ l m a q. stmt-ok S σ (take l (drop m s)) a (all-take Byte l (drop m s) (all-drop Byte m s o)) q) (headerCount s) (headerSize s)
+    (atFirst S) ts (f .read) in
     let k : length ts ≡ headerCount s = c .1 in
-    record { inputs = omega (arith, g .inputs, f .inputs); count = k; few = omega (arith, g .count); ok = each (atFirst S) ts (c .0) }
+    record {
+      inputs = omega (arith, g .inputs, f .inputs, inputs-room (headerVersion s));
+      count = k;
+      few = omega (arith, g .count);
+      ok = each (atFirst S) ts (c .0);
+    }
   where
-    each : (σ : Seen) (ts : List Stmt) → Chain (stmt (S + 4096)) see s (StmtOk S) σ ts → StmtsOk S σ ts
+    each : (σ : Seen) (ts : List Stmt) → Chain (stmt (head .inputs + 4096)) see s (StmtOk (head .inputs)) σ ts
+        → StmtsOk (head .inputs) σ ts
     each σ [] c = tt
     each σ (x ∷ ts) c = (c .0, each (see σ x) ts (c .1))

@@ -4,6 +4,12 @@ mod steps;
 
 ghost use Rattle.trace.specs.Answer.{JudgeAnswered};
 
+// Room for the symbols of any trace.
+pub const SYMBOL_ROOM: usize = 4160;
+
+// The version of a trace.
+pub const VERSION: u8 = 129;
+
 // Document 01's answer to judging: a reply and its offset, 0 safe or 1 unsafe with its place.
 pub struct Answer {
     pub reply: u32,
@@ -22,11 +28,11 @@ pub fn judge(trace: &[u8], words: &[u32]) -> Answer
     if reply != 0 {
         return steps::refused(reply as u32, t.offset as u32);
     }
-    if words.len() != trace[3] as usize {
+    if words.len() != file::inputs_of(trace) {
         return steps::refused(11, 0);
     }
     let n = t.count;
-    let mut cells: [u32; 4160] = [0; 4160];
+    let mut cells: [u32; SYMBOL_ROOM] = [0; SYMBOL_ROOM];
     file::copy_words(words, &mut cells);
     steps::judge_from(trace, &offsets, n, &mut cells)
 }

@@ -1,4 +1,6 @@
 // The statements of a trace.
+use super::SYMBOL_ROOM;
+use super::VERSION;
 use expr::File;
 use expr::number;
 use file::Reading;
@@ -7,14 +9,14 @@ ghost use mathlib.Core.Bool.{true};
 ghost use Prim.Native.Nat.{_+_, _≤_, _<_};
 ghost use lib.ListN.{length, drop, getD};
 ghost use Rattle.expr.specs.Number.{numberOf};
-ghost use Rattle.file.specs.File.{recordOf};
+ghost use Rattle.file.specs.File.{inputRoom, headerSize, recordOf};
 ghost use Rattle.file.specs.Shown.{replyOf, isGood};
-ghost use Rattle.trace.specs.Trace.{stmt};
-ghost use Rattle.trace.specs.Shown.{exprStart, exprPart, seen, leastAfter, markedBy, ReadRecords, ReadTrace};
+ghost use Rattle.trace.specs.Trace.{stmt, isTrace};
+ghost use Rattle.trace.specs.Shown.{symbolRoom, exprStart, exprPart, seen, leastAfter, markedBy, ReadRecords, ReadTrace};
 
 // A record's bytes after its length: 0, or the reply 5, 6 or 7.
 fn body_reply(body: &[u8], inputs: usize, least: usize, assigned: &[bool]) -> u8
-    requires { ⌜ (0 < length (now body)) × (inputs ≤ 64) ⌝ }
+    requires { ⌜ (0 < length (now body)) × (inputs ≤ inputRoom) ⌝ }
     ensures { λ r. ⌜ r ≡ replyOf (stmt (inputs + 4096) (seen inputs least (now (assigned .entry))) (now (body .entry))) ⌝ }
 {
     let kind = body[0];
@@ -48,7 +50,7 @@ fn body_reply(body: &[u8], inputs: usize, least: usize, assigned: &[bool]) -> u8
 
 // After the statement at a place: marks the symbol that it assigns, and gives the least that may be assigned then.
 fn learn(trace: &[u8], at: usize, inputs: usize, least: usize, assigned: &mut [bool]) -> usize
-    requires { ⌜ (at < 65536) × (inputs ≤ 64) × (length (now assigned) ≡ 4160)
+    requires { ⌜ (at < 65536) × (inputs ≤ inputRoom) × (length (now assigned) ≡ symbolRoom)
         × (isGood (recordOf (stmt (inputs + 4096) (seen inputs least (now assigned))) (drop at (now trace))) ≡ true) ⌝ }
     ensures { λ r. ⌜ (r ≡ leastAfter (recordOf (stmt (inputs + 4096) (seen inputs least (now (assigned .entry))))
         (drop at (now (trace .entry)))) least)
@@ -65,11 +67,11 @@ fn learn(trace: &[u8], at: usize, inputs: usize, least: usize, assigned: &mut [b
 
 // Reads the records after the header, and stores their offsets.
 fn read_records(trace: &[u8], inputs: usize, n: usize, offsets: &mut [u16]) -> Reading
-    requires { ⌜ (6 ≤ length (now trace)) × (length (now trace) < 65536) × (inputs ≤ 64) × (n ≤ length (now offsets)) ⌝ }
+    requires { ⌜ (headerSize (now trace) ≤ length (now trace)) × (length (now trace) < 65536) × (inputs ≤ inputRoom) × (n ≤ length (now offsets)) ⌝ }
     ensures { λ r. ⌜ ReadRecords (now (trace .entry)) inputs n (now (offsets .entry)) (now (offsets .exit)) r ⌝ }
 {
-    let mut assigned: [bool; 4160] = [false; 4160];
-    let mut at: usize = 6;
+    let mut assigned: [bool; SYMBOL_ROOM] = [false; SYMBOL_ROOM];
+    let mut at = file::header_size(trace);
     let mut k: usize = 0;
     let mut least = inputs;
     while k < n {
@@ -108,12 +110,19 @@ fn read_records(trace: &[u8], inputs: usize, n: usize, offsets: &mut [u16]) -> R
     }
 }
 
+fn is_trace(version: u8) -> bool
+    ensures { λ r. ⌜ r ≡ isTrace version ⌝ }
+{
+    version == VERSION
+}
+
 // Reads any bytes as a trace: the reply that they get, with its offset, or 0 with the offsets of all records stored.
 pub fn read_trace(trace: &[u8], offsets: &mut [u16]) -> Reading
     requires { ⌜ 4096 ≤ length (now offsets) ⌝ }
     ensures { λ r. ⌜ ReadTrace (now (trace .entry)) (now (offsets .entry)) (now (offsets .exit)) r ⌝ }
 {
-    let head = file::header_reply(trace, 129, 4096);
+    let known = is_trace(file::version_of(trace));
+    let head = file::header_reply(trace, known, 4096);
     if head != 0 {
         return Reading {
             reply: head,
@@ -121,8 +130,8 @@ pub fn read_trace(trace: &[u8], offsets: &mut [u16]) -> Reading
             count: 0,
         };
     }
-    let inputs = trace[3] as usize;
-    let n = number::two_at(trace, 4);
+    let inputs = file::inputs_of(trace);
+    let n = file::count_of(trace);
     read_records(trace, inputs, n, offsets)
 }
 

@@ -14,7 +14,7 @@ ghost use Rattle.file.specs.Shown.{isGood, listed, kindOf};
 ghost use Rattle.trace.specs.Trace.{readTrace};
 ghost use Rattle.trace.specs.Judge as Judge;
 ghost use Rattle.trace.specs.Answer.{refusal, answerOf};
-ghost use Rattle.trace.specs.Shown.{held, valueIn, stepBody, Moved, endOf, Ready};
+ghost use Rattle.trace.specs.Shown.{symbolRoom, held, valueIn, stepBody, Moved, endOf, Ready};
 
 // After a statement: go on, or end with a verdict and its place.
 enum Move {
@@ -45,7 +45,7 @@ fn failed(kind: u8, place: u32) -> Move
 
 // The value of the expression in the record at a place.
 fn value_at(trace: &[u8], at: usize, cells: &[u32]) -> u32
-    requires { ⌜ (at < 65536) × (length (now cells) ≡ 4160) × (isGood (held (drop at (now trace))) ≡ true) ⌝ }
+    requires { ⌜ (at < 65536) × (length (now cells) ≡ symbolRoom) × (isGood (held (drop at (now trace))) ≡ true) ⌝ }
     ensures { λ w. ⌜ w ≡ valueIn (held (drop at (now (trace .entry)))) (envOf (now (cells .entry))) ⌝ }
 {
     eval::eval_expr(read::expr_at(trace, at), File::Trace, cells)
@@ -53,7 +53,7 @@ fn value_at(trace: &[u8], at: usize, cells: &[u32]) -> u32
 
 // The statement whose record stands at a place of the trace.
 fn step_at(trace: &[u8], at: usize, cells: &mut [u32]) -> Move
-    requires { ⌜ (at < 65536) × (length (now cells) ≡ 4160) × (isGood (held (drop at (now trace))) ≡ true) ⌝ }
+    requires { ⌜ (at < 65536) × (length (now cells) ≡ symbolRoom) × (isGood (held (drop at (now trace))) ≡ true) ⌝ }
     ensures { λ m. ⌜ Moved (stepBody (held (drop at (now (trace .entry)))) (envOf (now (cells .entry)))) m (now (cells .exit)) ⌝ }
 {
     let w = value_at(trace, at, &*cells);
@@ -72,7 +72,7 @@ fn step_at(trace: &[u8], at: usize, cells: &mut [u32]) -> Move
 
 // From the first statement with the values given.
 pub fn judge_from(trace: &[u8], offsets: &[u16], n: usize, cells: &mut [u32]) -> Answer
-    requires { ⌜ Ready (now trace) (now offsets) n × (length (now cells) ≡ 4160) ⌝ }
+    requires { ⌜ Ready (now trace) (now offsets) n × (length (now cells) ≡ symbolRoom) ⌝ }
     ensures { λ a. ⌜ a ≡ answerOf (Judge.judge (listed (readTrace (now (trace .entry)))) (envOf (now (cells .entry)))) ⌝ }
 {
     let mut k: usize = 0;

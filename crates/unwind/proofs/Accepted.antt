@@ -6,11 +6,11 @@ use mathlib.Core.List.{List, [], _∷_}
 use lib.ListN.{length, drop, getD}
 use Rattle.expr.specs.Lists.{All}
 use Rattle.expr.specs.Number.{Byte}
-use Rattle.file.specs.File.{headerInputs, headerReply, Good, recordOf}
+use Rattle.file.specs.File.{inputRoom, headerSize, headerInputs, headOf, headerReply, Good, recordOf}
 use Rattle.file.specs.Shown.{listed}
 use Rattle.file.specs.FileLaws.{header-is, file-is}
 use Rattle.file.specs.ReadingLaws.{short}
-use Rattle.table.specs.Table.{Instr, instr, instrs, readTable}
+use Rattle.table.specs.Table.{Instr, instr, instrs, isTable, readTable}
 use Rattle.table.specs.TableLaws.{InstrOk}
 use Rattle.table.specs.Shown.{Ready}
 use Rattle.table.proofs.Running.{Loaded, loaded, here}
@@ -23,7 +23,7 @@ pub record At (s off : List ℕ) (n T i : ℕ) : Type 0 where
   pub good : recordOf (instr T n) (drop (getD off i 0) s) ≡ Good instruction
 
 module _ (s off : List ℕ) (n : ℕ) (o : All Byte s) (r : Ready s off n) where
-  is-loaded : Loaded s (headerInputs s) (listed (readTable s))
+  is-loaded : Loaded s (headOf s) (listed (readTable s))
   is-loaded = loaded s o (r .accepted)
 
   pub counted : length (listed (readTable s)) ≡ n
@@ -32,23 +32,23 @@ module _ (s off : List ℕ) (n : ℕ) (o : All Byte s) (r : Ready s off n) where
   pub few : n ≤ 1024
   few = omega (arith, counted, is-loaded .table .few)
 
-  header-right : headerReply 1 1024 s ≡ 0
+  header-right : headerReply isTable 1024 s ≡ 0
   unfolding readTable
-  header-right = file-is 1 1024 instrs s (headerInputs s) (listed (readTable s)) (is-loaded .accepted) .header
+  header-right = file-is isTable 1024 instrs s (headOf s) (listed (readTable s)) (is-loaded .accepted) .header
 
-  pub long : 6 ≤ length s
-  long = header-is 1 1024 s header-right .long
+  pub long : headerSize s ≤ length s
+  long = header-is isTable 1024 s header-right .long
 
-  pub few-inputs : headerInputs s ≤ 64
-  few-inputs = header-is 1 1024 s header-right .inputs
+  pub few-inputs : headerInputs s ≤ inputRoom
+  few-inputs = is-loaded .table .inputs
 
   pub small : length s < 65536
-  small = short 1 1024 s o header-right
+  small = short isTable 1024 s o header-right
 
   pub all-ok : All (InstrOk (headerInputs s) (length (listed (readTable s)))) (listed (readTable s))
   all-ok = is-loaded .table .ok
 
   pub instr-here : (T : ℕ) → headerInputs s ≤ T → (i : ℕ) → i < n → At s off n T i
   instr-here T l i h =
-      let x = here s off n 0 T (headerInputs s) (listed (readTable s)) is-loaded counted l (r .stored) [] i h in
+      let x = here s off n 0 T (headOf s) (listed (readTable s)) is-loaded counted l (r .stored) [] i h in
       record { instruction = x .instruction; after = x .after; is-here = x .is-here; good = x .good }

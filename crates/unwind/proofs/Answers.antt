@@ -9,9 +9,10 @@ use lib.ListN.{length}
 use lib.Dec.{leb}
 use borrow.Author.Tests.{le-leb, lt-leb}
 use Rattle.file.specs.Outcome.{Assume}
-use Rattle.file.specs.File.{Accepted, Refused, header, recordBytes, recordsBytes, encode}
+use Rattle.file.specs.File.{Head, headSize, Accepted, Refused, header, recordBytes, recordsBytes, encode}
+use Rattle.file.specs.EncodeLaws.{encode-length}
 use Rattle.table.specs.Table.{Instr, readTable}
-use Rattle.trace.specs.Trace.{Stmt, stmtBytes, encodeTrace}
+use Rattle.trace.specs.Trace.{Stmt, stmtBytes, traceVersion, traceHead, encodeTrace}
 use Rattle.write.specs.Splice.{Wrote, over}
 use Rattle.write.specs.SpliceLaws.{_then_, wrote-as, splice-over}
 use Rattle.unwind.specs.Places.{places}
@@ -30,9 +31,8 @@ module _ (S : ℕ) (is : List Instr) (K : ℕ) where
   abbrev ts : List Stmt
   ts = unwind Assume S is K
 
-  records-size : 6 + length (recordsBytes stmtBytes (unwind Assume S is K)) ≡ traceSize is K
-  unfolding encode
-  records-size = let z = unwind-size Assume S is K in omega (arith, z)
+  records-size : headSize traceVersion + length (recordsBytes stmtBytes (unwind Assume S is K)) ≡ traceSize is K
+  records-size = sym (encode-length stmtBytes (traceHead S) (unwind Assume S is K)) ∙ unwind-size Assume S is K
 
   pub count-is : (n : ℕ) → length is ≡ n → length (unwind Assume S is K) ≡ 1 + (K + 1) * (n + 1)
   count-is n q = unwind-count Assume S is K ∙ ap₂ (λ a b. 1 + a * b) (sym (add-one K)) (ap suc q ∙ sym (add-one n))
@@ -49,21 +49,24 @@ module _ (S : ℕ) (is : List Instr) (K : ℕ) where
     records-are = ap (λ c. recordBytes stmtBytes (opening S) ++ bytesAt c (places is K)) first
 
     -- what is left behind the header and the opening
-    pub rest-size : 18 + length (bytesAt (newestOf names S (S + 1)) (places is K)) ≡ traceSize is K
+    pub rest-size : headSize traceVersion + (12 + length (bytesAt (newestOf names S (S + 1)) (places is K))) ≡ traceSize is K
     rest-size = omega (arith, ap length records-are, records-size)
 
+    -- with the table's own number of inputs
     pub all-written : (n total count : ℕ) → length is ≡ n → total ≡ traceSize is K → count ≡ 1 + (K + 1) * (n + 1)
         → {out p q out′ : List ℕ} {a b to : ℕ} → total ≤ length out
-        → Wrote out 0 (header 129 total S count) p a → Wrote p a (recordBytes stmtBytes (opening S)) q b → Wrote q b rest out′ to
-        → out′ ≡ over (encodeTrace S (unwind Assume S is K)) out
+        → Wrote out 0 (header (traceHead S) total count) p a → Wrote p a (recordBytes stmtBytes (opening S)) q b → Wrote q b rest out′ to
+        → {T : ℕ} → S ≡ T → out′ ≡ over (encodeTrace (traceHead T) (unwind Assume T is K)) out
     unfolding encode
-    all-written n total count l t c {out} fits v w x =
-        let head : header 129 total S count ≡ header 129 (6 + length (recordsBytes stmtBytes ts)) S (length ts)
-        = ap₂ (λ m k. header 129 m S k) (t ∙ sym records-size) (c ∙ sym (count-is n l)) in
-        let bytes : header 129 total S count ++ (recordBytes stmtBytes (opening S) ++ rest) ≡ encodeTrace S ts = ap₂ (λ h r. h ++ r) head
-        records-are in
-        let all : Wrote out 0 (encodeTrace S ts) _ _ = wrote-as bytes (v then w then x) in
-        all .buffer ∙ splice-over (encodeTrace S ts) out (omega (arith, t, records-size))
+    all-written n total count l t c {out} fits v w x e =
+        let head : header (traceHead S) total count
+        ≡ header (traceHead S) (headSize traceVersion + length (recordsBytes stmtBytes ts)) (length ts)
+        = ap₂ (header (traceHead S)) (t ∙ sym records-size) (c ∙ sym (count-is n l)) in
+        let bytes : header (traceHead S) total count ++ (recordBytes stmtBytes (opening S) ++ rest) ≡ encodeTrace (traceHead S) ts
+        = ap₂ (λ h r. h ++ r) head records-are in
+        let all : Wrote out 0 (encodeTrace (traceHead S) ts) _ _ = wrote-as bytes (v then w then x) in
+        all .buffer ∙ splice-over (encodeTrace (traceHead S) ts) out (omega (arith, t, unwind-size Assume S is K))
+        ∙ ap (λ T. over (encodeTrace (traceHead T) (unwind Assume T is K)) out) e
 
 -- ---- the answer
 
@@ -77,7 +80,10 @@ module _ (s out : List ℕ) (K : ℕ) where
   unfolding traceAnswer
   table-refuses reply offset e k = answers (refusal reply offset) (ap (answered K (length out)) e) k refl
 
-  module _ (S : ℕ) (is : List Instr) (e : readTable s ≡ Accepted S is) where
+  module _ (head : Head) (is : List Instr) (e : readTable s ≡ Accepted head is) where
+    abbrev S : ℕ
+    S = head .inputs
+
     opened : traceAnswer s K (length out) ≡ cond (leb K 255) (traceOf (length out) S (unwind Assume S is K)) (refusal 8 0)
     unfolding traceAnswer
     opened = ap (answered K (length out)) e
@@ -93,9 +99,9 @@ module _ (s out : List ℕ) (K : ℕ) where
       bounded = opened ∙ ap (λ b. cond b (traceOf (length out) S (unwind Assume S is K)) (refusal 8 0)) (le-leb K 255 few)
 
       abbrev bytes : List ℕ
-      bytes = encodeTrace S (unwind Assume S is K)
+      bytes = encodeTrace (traceHead S) (unwind Assume S is K)
 
-      size-is : (total : ℕ) → total ≡ traceSize is K → length (encodeTrace S (unwind Assume S is K)) ≡ total
+      size-is : (total : ℕ) → total ≡ traceSize is K → length (encodeTrace (traceHead S) (unwind Assume S is K)) ≡ total
       size-is total t = unwind-size Assume S is K ∙ sym t
 
       pub count-refuses : 4096 < 1 + (K + 1) * (n + 1) → {r : Answer} → r ≡ numbers (refusal 9 0) → TraceWritten s K out out r
@@ -109,11 +115,11 @@ module _ (s out : List ℕ) (K : ℕ) where
         pub size-refuses : 65535 < total → {r : Answer} → r ≡ numbers (refusal 9 0) → TraceWritten s K out out r
         size-refuses h k =
             answers (refusal 9 0) (bounded ∙ rw
-            (counted, lt-leb (length (encodeTrace S (unwind Assume S is K))) 65535 (omega (arith, size-is total t)))) k refl
+            (counted, lt-leb (length (encodeTrace (traceHead S) (unwind Assume S is K))) 65535 (omega (arith, size-is total t)))) k refl
 
         module _ (small : total ≤ 65535) where
-          sized : leb (length (encodeTrace S (unwind Assume S is K))) 65535 ≡ true
-          sized = le-leb (length (encodeTrace S (unwind Assume S is K))) 65535 (omega (arith, size-is total t))
+          sized : leb (length (encodeTrace (traceHead S) (unwind Assume S is K))) 65535 ≡ true
+          sized = le-leb (length (encodeTrace (traceHead S) (unwind Assume S is K))) 65535 (omega (arith, size-is total t))
 
           pub room-refuses : length out < total → {r : Answer} → r ≡ numbers (refusal 10 0) → TraceWritten s K out out r
           room-refuses h k =
@@ -121,18 +127,18 @@ module _ (s out : List ℕ) (K : ℕ) where
               ∙ rw (
                 counted,
                 sized,
-                lt-leb (length (encodeTrace S (unwind Assume S is K))) (length out)
+                lt-leb (length (encodeTrace (traceHead S) (unwind Assume S is K))) (length out)
                     (omega (arith, size-is total t)),
               )) k refl
 
-          pub trace-written : total ≤ length out → {out′ : List ℕ} → out′ ≡ over (encodeTrace S (unwind Assume S is K)) out
+          pub trace-written : total ≤ length out → {out′ : List ℕ} → out′ ≡ over (encodeTrace (traceHead S) (unwind Assume S is K)) out
               → TraceWritten s K out out′ (record { reply = 0; offset = 0; length = total })
           trace-written h b =
-              answers (record { reply = 0; offset = 0; bytes = encodeTrace S (unwind Assume S is K) })
+              answers (record { reply = 0; offset = 0; bytes = encodeTrace (traceHead S) (unwind Assume S is K) })
               (bounded ∙ rw (
                 counted,
                 sized,
-                le-leb (length (encodeTrace S (unwind Assume S is K))) (length out)
+                le-leb (length (encodeTrace (traceHead S) (unwind Assume S is K))) (length out)
                     (omega (arith, size-is total t)),
               ))
               (ap {B = Answer} (λ m. record { reply = 0; offset = 0; length = m }) (sym (size-is total t))) b

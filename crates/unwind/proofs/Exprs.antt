@@ -16,6 +16,7 @@ use Rattle.expr.specs.Eval.{renameToken, rename}
 use Rattle.expr.specs.Shown.{isWhole, tokensOf, sizeOf, Stands}
 use Rattle.expr.proofs.Steps.{Constant, Reads, constant-stands, symbol-stands, operator-stands}
 use Rattle.expr.proofs.Rests.{Rest, tokens, rest-start, Turned, stands, turn, rest-end}
+use Rattle.file.specs.File.{inputRoom}
 use Rattle.write.specs.Splice.{Wrote}
 use Rattle.write.specs.SpliceLaws.{wrote-as, Ahead, ahead-start, ahead-step, ahead-end, ahead-room}
 use Rattle.unwind.specs.declared.tokens.Span.{Span}
@@ -171,12 +172,12 @@ module _ {e names out₀ : List ℕ} {at : ℕ} {out : List ℕ} {i to : ℕ} (v
 -- ---- the loop that measures
 
 pub record Measuring (e : List ℕ) (i size : ℕ) : Type 0 where
-  pub rest : Rest Table 64 e i
+  pub rest : Rest Table inputRoom e i
   pub little : size ≤ 2 * i
   pub sum : size + exprSize (tokens rest) ≡ exprSize (tokensOf (parse Table known e))
 
 pub measuring-start : (e : List ℕ) → isWhole (parse Table known e) ≡ true → Measuring e 0 0
-measuring-start e h = record { rest = rest-start Table 64 e h; little = omega arith; sum = omega arith }
+measuring-start e h = record { rest = rest-start Table inputRoom e h; little = omega arith; sum = omega arith }
 
 module _ {e : List ℕ} {i size : ℕ} (v : Measuring e i size) where
   pub record MeasureOn (here there : ℕ) : Type 0 where
@@ -185,8 +186,8 @@ module _ {e : List ℕ} {i size : ℕ} (v : Measuring e i size) where
 
   pub measure-on : i < length e → (s : Span) → s ≡ spanOf (getD e i 0) → MeasureOn (s .here) (s .there)
   measure-on h s q =
-      let k : Spans 64 e i h (stands (v .rest) h) (λ x. x) s = subst (Spans 64 e i h (stands (v .rest) h) (λ x. x)) (sym q)
-      (span-is 64 e i h (stands (v .rest) h) (λ x. x)) in
+      let k : Spans inputRoom e i h (stands (v .rest) h) (λ x. x) s = subst (Spans inputRoom e i h (stands (v .rest) h) (λ x. x)) (sym q)
+      (span-is inputRoom e i h (stands (v .rest) h) (λ x. x)) in
       let t = turn (v .rest) h (s .here) (k .here) in
       record {
         some-byte = t .some-byte;

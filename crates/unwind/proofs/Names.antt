@@ -10,13 +10,14 @@ use lib.Seq.{getD-set-same, getD-set-other}
 use lib.Dec.{eqb}
 use borrow.Author.Tests.{eqb-true, eqb-false}
 use Rattle.unwind.specs.Shown.{currentOf}
+use Rattle.file.specs.File.{inputRoom}
 
 pub record Naming (names : List ℕ) (s : ℕ) : Type 0 where
-  pub long : length names ≡ 64
-  pub inside : s ≤ 64
+  pub long : length names ≡ inputRoom
+  pub inside : s ≤ inputRoom
   pub named : (x : ℕ) → x < s → currentOf names x ≡ x
 
-pub naming-on : (names : List ℕ) (s : ℕ) → Naming names s → s < 64 → Naming (set names s s) (s + 1)
+pub naming-on : (names : List ℕ) (s : ℕ) → Naming names s → s < inputRoom → Naming (set names s s) (s + 1)
 naming-on names s v h = record {
   long = length-set names s s ∙ v .long;
   inside = omega arith;
@@ -35,5 +36,5 @@ past-end [] i d h = refl
 past-end (x ∷ xs) zero d h = absurd (omega arith)
 past-end (x ∷ xs) (suc i) d h = past-end xs i d (omega arith)
 
-pub naming-end : (names : List ℕ) (s : ℕ) → Naming names s → 64 ≤ s → (x : ℕ) → currentOf names x ≡ x
-naming-end names s v h x = elim (decLt x 64) [ yes l ↦ v .named x (omega arith) | no l ↦ past-end names x x (omega (arith, v .long)) ]
+pub naming-end : (names : List ℕ) (s : ℕ) → Naming names s → inputRoom ≤ s → (x : ℕ) → currentOf names x ≡ x
+naming-end names s v h x = elim (decLt x inputRoom) [ yes l ↦ v .named x (omega arith) | no l ↦ past-end names x x (omega (arith, v .long)) ]

@@ -16,7 +16,7 @@ use Rattle.expr.specs.Lists.{All}
 use Rattle.expr.specs.Number.{Byte, numberOf}
 use Rattle.expr.specs.Expr.{parse}
 use Rattle.expr.specs.Shown.{isWhole}
-use Rattle.file.specs.File.{Body, recordOf}
+use Rattle.file.specs.File.{inputRoom, Body, recordOf}
 use Rattle.file.specs.Shown.{isGood, kindOf, listed}
 use Rattle.table.specs.Table.{Instr, Assign, Test, IfThenGoto, instr, readTable}
 use Rattle.file.specs.RecordLaws.{rest-length}
@@ -34,7 +34,7 @@ use Rattle.unwind.proofs.Accepted.{At, counted, few, few-inputs, instr-
 abbrev pub AreSizes : (i : ℕ) → Body Instr → (early last : ℕ) → Type 0
 AreSizes i rec early last = (early ≡ sizeIn false i rec) × (last ≡ sizeIn true i rec) × (early ≤ 131200) × (last ≤ 131200)
 
-module _ {n : ℕ} {s : List ℕ} {at : ℕ} (h : Held 64 n s at) where
+module _ {n : ℕ} {s : List ℕ} {at : ℕ} (h : Held inputRoom n s at) where
   -- the size of the record's expression
   pub record Measured (size : ℕ) : Type 0 where
     pub is : size ≡ exprSize (exprOf (h .instruction))
@@ -58,7 +58,7 @@ module _ {n : ℕ} {s : List ℕ} {at : ℕ} (h : Held 64 n s at) where
 
   module _ {size : ℕ} (m : Measured size) (i : ℕ) where
     abbrev rec : Body Instr
-    rec = recordOf (instr 64 n) (drop at s)
+    rec = recordOf (instr inputRoom n) (drop at s)
 
     -- the size of the record, by the form of its instruction
     by : (last : Bool) (x : Instr) → h .instruction ≡ x → sizeIn last i rec ≡ instrSize last i x
@@ -135,14 +135,14 @@ module _ (s off : List ℕ) (n : ℕ) (o : All Byte s) (r : Ready s off n) where
   abbrev is : List Instr
   is = listed (readTable s)
 
-  at-hand : (i : ℕ) → i < n → At s off n 64 i
-  at-hand i h = instr-here s off n o r 64 (few-inputs s off n o r) i h
+  at-hand : (i : ℕ) → i < n → At s off n inputRoom i
+  at-hand i h = instr-here s off n o r inputRoom (few-inputs s off n o r) i h
 
-  pub readable : (i : ℕ) → i < n → isGood (recordOf (instr 64 n) (drop (getD off i 0) s)) ≡ true
+  pub readable : (i : ℕ) → i < n → isGood (recordOf (instr inputRoom n) (drop (getD off i 0) s)) ≡ true
   readable i h = ap isGood (at-hand i h .good)
 
   pub record-on : (last : Bool) (i sum size : ℕ) → i < n → Summing last is i sum
-      → size ≡ sizeIn last i (recordOf (instr 64 n) (drop (getD off i 0) s)) → size ≤ 131200
+      → size ≡ sizeIn last i (recordOf (instr inputRoom n) (drop (getD off i 0) s)) → size ≤ 131200
       → Summing last is (i + 1) (sum + size)
   record-on last i sum size h v q =
       let x = at-hand i h in

@@ -8,7 +8,7 @@ use lib.Dec.{leb}
 use Rattle.file.specs.Outcome.{Assume}
 use Rattle.file.specs.File.{Input, Accepted, Refused}
 use Rattle.table.specs.Table.{Instr, readTable}
-use Rattle.trace.specs.Trace.{Stmt, encodeTrace}
+use Rattle.trace.specs.Trace.{Stmt, traceHead, encodeTrace}
 use Rattle.write.specs.Splice.{over}
 use Rattle.unwind.specs.declared.Answer.{Answer}
 use Rattle.unwind.specs.Unwind.{unwind}
@@ -29,12 +29,12 @@ fitting room count bytes =
     (refusal 10 0)) (refusal 9 0)
 
 abbrev pub traceOf : (room S : ℕ) → List Stmt → Traced
-traceOf room S ts = fitting room (length ts) (encodeTrace S ts)
+traceOf room S ts = fitting room (length ts) (encodeTrace (traceHead S) ts)
 
 -- after the table's own refusals 8, then 9 and 10; the bound's tests are Assumes
 abbrev pub answered : (K room : ℕ) → Input Instr → Traced
 answered K room (Refused reply offset) = refusal reply offset
-answered K room (Accepted S is) = cond (leb K 255) (traceOf room S (unwind Assume S is K)) (refusal 8 0)
+answered K room (Accepted head is) = cond (leb K 255) (traceOf room (head .inputs) (unwind Assume (head .inputs) is K)) (refusal 8 0)
 
 unfoldable pub traceAnswer : (table : List ℕ) (K room : ℕ) → Traced
 traceAnswer table K room = answered K room (readTable table)

@@ -10,11 +10,14 @@ use Rattle.file.specs.File.{headerReply, frame, recordOf, records, readFile, en
 use Rattle.file.specs.Shown.{listed}
 use Rattle.table.specs.Table.{instr, readTable}
 use Rattle.table.specs.Cases.{smallRule}
-use Rattle.trace.specs.Trace.{encodeTrace}
+use Rattle.trace.specs.Trace.{traceHead, encodeTrace}
 use Rattle.trace.specs.Cases.{smallTrace0, smallTrace1}
 use Rattle.unwind.specs.Places.{places}
 use Rattle.unwind.specs.Unwind.{unwind}
 use Rattle.unwind.specs.Answer.{Traced, refusal, traceAnswer}
+use Rattle.file.specs.File.{headSize, headerInputs, headerCount, inputsLimit, inputRoom, header}
+use Rattle.table.specs.Table.{isTable}
+use Rattle.trace.specs.Trace.{traceVersion}
 
 abbrev written : List ℕ → Traced
 written bytes = record { reply = 0; offset = 0; bytes = bytes }
@@ -23,13 +26,15 @@ written bytes = record { reply = 0; offset = 0; bytes = bytes }
 pub m5 : (traceAnswer smallRule 0 156 ≡ written smallTrace0) × (length smallTrace0 ≡ 156)
     × (length (unwind Assume 1 (listed (readTable smallRule)) 0) ≡ 6)
     × (traceAnswer smallRule 1 302 ≡ written smallTrace1) × (length smallTrace1 ≡ 302)
-unfolding traceAnswer readTable readFile headerReply records recordOf frame instr parseFrom readToken operator fits unwind places encode
+unfolding traceAnswer traceVersion readTable isTable readFile headerReply headSize headerInputs headerCount inputsLimit inputRoom records
+    recordOf frame instr parseFrom readToken operator fits unwind places encode header
 m5 = (refl, refl, refl, refl, refl)
 
 -- a room that is one byte short is 10; K = 255 is accepted, 256 is 8, and 8 comes before 10
 rooms : (traceAnswer smallRule 0 155 ≡ refusal 10 0) × (traceAnswer smallRule 0 157 ≡ written smallTrace0)
     × (length ((traceAnswer smallRule 255 65535) .bytes) ≡ 37386) × (traceAnswer smallRule 256 0 ≡ refusal 8 0)
-unfolding traceAnswer readTable readFile headerReply records recordOf frame instr parseFrom readToken operator fits unwind places encode
+unfolding traceAnswer traceVersion readTable isTable readFile headerReply headSize headerInputs headerCount inputsLimit inputRoom records
+    recordOf frame instr parseFrom readToken operator fits unwind places encode header
 rooms = (refl, refl, refl, refl)
 
 -- m11: the empty table's trace has 2 statements, the opening and an exit to place 1, and 43 bytes
@@ -38,7 +43,8 @@ pub m11 : (traceAnswer (0x01 ∷ 0x00 ∷ 0x06 ∷ 0x00 ∷ 0x00 ∷ 0x00 ∷ []
     ∷ 0x00 ∷ 0x0A ∷ 0x01 ∷ 0xFF ∷ 0xFF ∷ 0x00 ∷ 0x00 ∷ 0x01 ∷ 0x00 ∷ 0x00 ∷ 0x00 ∷ 0x00
     ∷ 0x00 ∷ 0x17 ∷ 0x01 ∷ 0x00 ∷ 0x00 ∷ 0x00 ∷ 0x01
     ∷ 0x03 ∷ 0x00 ∷ 0x00 ∷ 0x01 ∷ 0x00 ∷ 0x00 ∷ 0x00 ∷ 0x00 ∷ 0x2D ∷ 0x01 ∷ 0x00 ∷ 0x00 ∷ 0x00 ∷ 0x01 ∷ 0x03 ∷ 0x00 ∷ 0x00 ∷ 0x30 ∷ []))
-unfolding traceAnswer readTable readFile headerReply records unwind places encode
+unfolding traceAnswer traceVersion readTable isTable readFile headerReply headSize headerInputs headerCount inputsLimit inputRoom records
+    unwind places encode header
 m11 = refl
 
 -- ---- other whole traces under K = 1, written by hand from document 01
@@ -212,7 +218,8 @@ stepsOnTrace =
 
 byte-for-byte : (traceAnswer leaves 1 224 ≡ written leavesTrace) × (traceAnswer loops 1 128 ≡ written loopsTrace)
     × (traceAnswer renames 1 286 ≡ written renamesTrace) × (traceAnswer stepsOn 1 178 ≡ written stepsOnTrace)
-unfolding traceAnswer readTable readFile headerReply records recordOf frame instr parseFrom readToken operator fits unwind places encode
+unfolding traceAnswer traceVersion readTable isTable readFile headerReply headSize headerInputs headerCount inputsLimit inputRoom records
+    recordOf frame instr parseFrom readToken operator fits unwind places encode header
 byte-for-byte = (refl, refl, refl, refl)
 
 -- ---- S = 1 and 1,024 instructions, each an Assert of symbol 0
@@ -228,9 +235,10 @@ asserts = 0x01 ∷ 0x14 ∷ 0x06 ∷ 0x01 ∷ 0x04 ∷ 0x00 ∷ repeated 1024 (0
 limits : (length asserts ≡ 5126)
     × (length (unwind Assume 1 (listed (readTable asserts)) 1) ≡ 2051) × (length ((traceAnswer asserts 1 65535) .bytes) ≡ 47172)
     × (length (unwind Assume 1 (listed (readTable asserts)) 2) ≡ 3076)
-    × (length (encodeTrace 1 (unwind Assume 1 (listed (readTable asserts)) 2)) ≡ 70749)
+    × (length (encodeTrace (traceHead 1) (unwind Assume 1 (listed (readTable asserts)) 2)) ≡ 70749)
     × (traceAnswer asserts 2 65535 ≡ refusal 9 0)
-unfolding traceAnswer readTable readFile headerReply records recordOf frame instr parseFrom readToken operator fits unwind places encode
+unfolding traceAnswer traceVersion readTable isTable readFile headerReply headSize headerInputs headerCount inputsLimit inputRoom records
+    recordOf frame instr parseFrom readToken operator fits unwind places encode header
 limits = (refl, refl, refl, refl, refl, refl)
 
 -- S = 1 and one instruction, an Assert of symbol 0 with so many times `zero` behind it
@@ -240,5 +248,6 @@ zeros high low c = 0x01 ∷ 0xFF ∷ low ∷ 0x01 ∷ 0x00 ∷ 0x01 ∷ 0xFF ∷
 -- a trace of 65,535 bytes is written; one of 65,536 is 9
 longest : (length ((traceAnswer (zeros 0xC0 0xC8 65469) 0 65535) .bytes) ≡ 65535)
     × (traceAnswer (zeros 0xC1 0xC9 65470) 0 65536 ≡ refusal 9 0)
-unfolding traceAnswer readTable readFile headerReply records recordOf frame instr parseFrom readToken operator fits unwind places encode
+unfolding traceAnswer traceVersion readTable isTable readFile headerReply headSize headerInputs headerCount inputsLimit inputRoom records
+    recordOf frame instr parseFrom readToken operator fits unwind places encode header
 longest = (refl, refl)

@@ -11,7 +11,7 @@ use Rattle.expr.specs.Token.{Token, tokenBytes}
 use Rattle.expr.specs.Expr.{below}
 use Rattle.expr.specs.Eval.{renameToken}
 use Rattle.file.specs.Outcome.{Assume}
-use Rattle.file.specs.File.{Body, Good, Bad, recordsBytes}
+use Rattle.file.specs.File.{inputRoom, Body, Good, Bad, recordsBytes}
 use Rattle.table.specs.Table.{Instr}
 use Rattle.table.specs.Run.{placeIn}
 use Rattle.trace.specs.Trace.{stmtBytes}
@@ -36,7 +36,7 @@ newestOf names control next = record { current = currentOf names; control = cont
 
 -- every symbol that a table can have
 abbrev pub known : ℕ → Bool
-known = below 64
+known = below inputRoom
 
 -- the bytes of a token in a trace
 abbrev pub renamedBytes : (ℕ → ℕ) → Option Token → List ℕ

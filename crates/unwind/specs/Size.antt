@@ -6,6 +6,8 @@ use lib.ListN.{length}
 use lib.Dec.{leb}
 use Rattle.expr.specs.declared.File.the-variants.{Trace}
 use Rattle.expr.specs.Token.{Token, exprBytes}
+use Rattle.file.specs.File.{headSize}
+use Rattle.trace.specs.Trace.{traceVersion}
 use Rattle.table.specs.Table.{Instr, Assign, Test, IfThenGoto}
 
 -- the bytes of an expression in a trace, whatever its symbols are called
@@ -23,6 +25,6 @@ abbrev pub copySize : (last : Bool) (i : ℕ) → List Instr → ℕ
 copySize last i [] = 25
 copySize last i (x ∷ xs) = instrSize last i x + copySize last (suc i) xs
 
--- the header and the opening have 18
+-- the header, the opening and all copies
 abbrev pub traceSize : List Instr → (K : ℕ) → ℕ
-traceSize is K = 18 + (K * copySize false 0 is + copySize true 0 is)
+traceSize is K = headSize traceVersion + (12 + (K * copySize false 0 is + copySize true 0 is))

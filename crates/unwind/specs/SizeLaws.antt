@@ -14,11 +14,11 @@ use Rattle.expr.specs.Token.{Token, Const, Symbol, Un, Bin, Ite, operands, toke
 use Rattle.expr.specs.TokenLaws.{bytes-append}
 use Rattle.expr.specs.Eval.{rename}
 use Rattle.file.specs.Outcome.{Kind, Bound}
-use Rattle.file.specs.File.{recordBytes, recordsBytes, encode}
-use Rattle.file.specs.EncodeLaws.{records-append}
+use Rattle.file.specs.File.{headSize, recordBytes, recordsBytes}
+use Rattle.file.specs.EncodeLaws.{records-append, encode-length}
 use Rattle.table.specs.Table.{Instr, Assign, Test, IfThenGoto}
 use Rattle.table.specs.Run.{placeIn}
-use Rattle.trace.specs.Trace.{stmtBytes, encodeTrace}
+use Rattle.trace.specs.Trace.{stmtBytes, traceVersion, traceHead, encodeTrace}
 use Rattle.unwind.specs.Places.{Check, Jump, Exit, Place, At, actionIn, copyFrom, copiesFrom, places}
 use Rattle.unwind.specs.Unwind.{Newest, guarded, statement, advance, statements, atFirst, unwind}
 use Rattle.unwind.specs.UnwindLaws.{after, statements-append}
@@ -112,6 +112,8 @@ module _ (cut : Kind) where
       copy-then c (length is) K r false is (copiesFrom is K (suc m) (suc r)) (lt-ltb r K (omega arith))
       ∙ (omega (arith, copies-size (after c (copyFrom (length is) K r 0 is)) is K m (suc r) (omega arith)))
 
-  pub unwind-size : (S : ℕ) (is : List Instr) (K : ℕ) → length (encodeTrace S (unwind cut S is K)) ≡ traceSize is K
-  unfolding encode unwind places
-  unwind-size S is K = omega (arith, copies-size (atFirst S) is K K 0 (omega arith))
+  pub unwind-size : (S : ℕ) (is : List Instr) (K : ℕ) → length (encodeTrace (traceHead S) (unwind cut S is K)) ≡ traceSize is K
+  unfolding unwind places
+  unwind-size S is K =
+      let l = encode-length stmtBytes (traceHead S) (unwind cut S is K) in
+      omega (arith, l, copies-size (atFirst S) is K K 0 (omega arith))

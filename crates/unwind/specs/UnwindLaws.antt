@@ -19,13 +19,14 @@ use Rattle.expr.specs.Expr.{below, pops, fits}
 use Rattle.expr.specs.ExprLaws.{fits-is, Ok, ok-append, ok-rename}
 use Rattle.expr.specs.Eval.{renameToken, rename}
 use Rattle.file.specs.Outcome.{Kind, Assume, Assert, Bound}
-use Rattle.file.specs.File.{Accepted, encode}
+use Rattle.file.specs.File.{inputRoom, Accepted}
+use Rattle.file.specs.FileLaws.{symbols-in-two-bytes}
 use Rattle.table.specs.Table.{Instr, Assign, Test, IfThenGoto}
 use Rattle.table.specs.Run.{placeIn}
 use Rattle.table.specs.TableLaws.{ExprOk as TableExprOk, InstrOk}
-use Rattle.trace.specs.Trace.{Stmt, Seen, atFirst as seenFirst, see, encodeTrace, readTrace}
+use Rattle.trace.specs.Trace.{Stmt, Seen, atFirst as seenFirst, see, traceHead, encodeTrace, readTrace}
 use Rattle.trace.specs.WellFormed.{Told, ExprOk, StmtsOk}
-use Rattle.trace.specs.EncodeLaws.{read-encode}
+use Rattle.trace.specs.EncodeLaws.{read-encode, room-written, trace-known}
 use Rattle.unwind.specs.Places.{Action, Set, Check, Jump, Exit, Place, At, endOf, jumpIn, actionIn, copyFrom, copiesFrom, places}
 use Rattle.unwind.specs.Unwind.{Newest, guarded, becomes, statement, makesCurrent, makesControl, advance, statements, atFirst}
 use Rattle.unwind.specs.Unwind.{opening, unwind}
@@ -209,7 +210,7 @@ becomes-told cut h Assume = tt
 becomes-told cut h Assert = tt
 becomes-told cut h Bound = h
 
-module _ (cut : Kind) (told : Told cut) (S limit : ℕ) (few : S ≤ 64) (short : limit < 65536) where
+module _ (cut : Kind) (told : Told cut) (S limit : ℕ) (few : S + 4096 ≤ 65536) (short : limit < 65536) where
   module _ (c : Newest) (σ : Seen) (k : Known S c σ) (room : c .next < 65536) where
     control-small : c .control < 65536
     control-small = omega (arith, k .control-old)
@@ -289,7 +290,7 @@ module _ (cut : Kind) (told : Told cut) (S limit : ℕ) (few : S ≤ 64) (short 
         statements-ok ps (makesControl c) (learnt c σ) (o .1) (known-control S c σ k) (omega arith),
       )
 
-pub unwind-well-formed : (cut : Kind) → Told cut → (S : ℕ) (is : List Instr) (K : ℕ) → All (InstrOk S (length is)) is → S ≤ 64
+pub unwind-well-formed : (cut : Kind) → Told cut → (S : ℕ) (is : List Instr) (K : ℕ) → All (InstrOk S (length is)) is → S ≤ inputRoom
     → length (unwind cut S is K) ≤ 4096
     → StmtsOk S (seenFirst S) (unwind cut S is K)
 unfolding unwind fits
@@ -297,20 +298,21 @@ unwind-well-formed cut told S is K o few count =
     let l : length (unwind cut S is K) ≡ 1 + endOf (length is) K = unwind-count cut S is K in
     let m : endOf (length is) K < 65536 = omega arith in (
       ((omega arith), (omega arith), (omega arith), ((refl, refl), ((omega arith), tt))),
-      statements-ok cut told S (endOf (length is) K) few m (places is K) (atFirst S) (see (seenFirst S) (opening S)) (places-ok S is K o)
+      statements-ok cut told S (endOf (length is) K) (omega (arith, symbols-in-two-bytes)) m (places is K) (atFirst S) (see (seenFirst S) (opening S)) (places-ok S is K o)
           (known-first S)
           (omega (arith, places-count is K)),
     )
 
-pub unwind-ok : (S : ℕ) (is : List Instr) (K : ℕ) → All (InstrOk S (length is)) is → S ≤ 64 → length (unwind Assume S is K) ≤ 4096
+pub unwind-ok : (S : ℕ) (is : List Instr) (K : ℕ) → All (InstrOk S (length is)) is → S ≤ inputRoom → length (unwind Assume S is K) ≤ 4096
     → StmtsOk S (seenFirst S) (unwind Assume S is K)
 unwind-ok S is K o few count = unwind-well-formed Assume tt S is K o few count
 
 -- ---- read again
 
 -- the trace of a well-formed table, within the limits, is accepted as what it is
-pub unwind-accepted : (S : ℕ) (is : List Instr) (K : ℕ) → All (InstrOk S (length is)) is → S ≤ 64 → length (unwind Assume S is K) ≤ 4096
-    → length (encodeTrace S (unwind Assume S is K)) ≤ 65535 → readTrace (encodeTrace S (unwind Assume S is K)) ≡ Accepted S
-    (unwind Assume S is K)
-unfolding encode
-unwind-accepted S is K o few count total = read-encode S (unwind Assume S is K) few count (omega arith) (unwind-ok S is K o few count)
+pub unwind-accepted : (S : ℕ) (is : List Instr) (K : ℕ) → All (InstrOk S (length is)) is → S ≤ inputRoom → length (unwind Assume S is K) ≤ 4096
+    → length (encodeTrace (traceHead S) (unwind Assume S is K)) ≤ 65535
+    → readTrace (encodeTrace (traceHead S) (unwind Assume S is K)) ≡ Accepted (traceHead S) (unwind Assume S is K)
+unwind-accepted S is K o few count total =
+    read-encode (traceHead S) (unwind Assume S is K) (trace-known S) (omega (arith, room-written)) count (omega arith)
+    (unwind-ok S is K o few count)

@@ -5,16 +5,17 @@ mod size;
 mod tokens;
 
 use copy::Front;
+use file::INPUT_ROOM;
 use table::read;
 ghost use mathlib.Core.Path.{_≡_};
 ghost use Prim.Native.Nat.{ℕ, _+_, _*_, _≤_};
 ghost use lib.ListN.{length};
 ghost use Rattle.file.specs.Outcome.{Assume};
-ghost use Rattle.file.specs.File.{headerInputs};
+ghost use Rattle.file.specs.File.{inputRoom, headerInputs};
 ghost use Rattle.file.specs.Shown.{listed};
 ghost use Rattle.table.specs.Table.{readTable};
 ghost use Rattle.table.specs.Shown.{Ready};
-ghost use Rattle.trace.specs.Trace.{encodeTrace};
+ghost use Rattle.trace.specs.Trace.{traceHead, encodeTrace};
 ghost use Rattle.write.specs.Splice.{over};
 ghost use Rattle.unwind.specs.Unwind.{unwind};
 ghost use Rattle.unwind.specs.Size.{traceSize};
@@ -39,12 +40,12 @@ fn refused(reply: u32, offset: u32) -> Answer
 }
 
 // At first the current symbol of every program symbol is the input itself.
-fn first_names() -> [u16; 64]
-    ensures { λ r. ⌜ (length r ≡ 64) × ((s : ℕ) → currentOf r s ≡ s) ⌝ }
+fn first_names() -> [u16; INPUT_ROOM]
+    ensures { λ r. ⌜ (length r ≡ inputRoom) × ((s : ℕ) → currentOf r s ≡ s) ⌝ }
 {
-    let mut names: [u16; 64] = [0; 64];
+    let mut names: [u16; INPUT_ROOM] = [0; INPUT_ROOM];
     let mut s: usize = 0;
-    while s < 64 {
+    while s < INPUT_ROOM {
         names[s] = s as u16;
         s += 1;
     }
@@ -63,11 +64,11 @@ fn write_all(
 )
     requires { ⌜ Ready (now table) (now offsets) n × (bound ≤ 255) × (count ≡ 1 + (bound + 1) * (n + 1)) × (count ≤ 4096)
         × (total ≡ traceSize (listed (readTable (now table))) bound) × (total ≤ length (now out)) ⌝ }
-    ensures { λ _. ⌜ now (out .exit) ≡ over (encodeTrace (headerInputs (now (table .entry)))
+    ensures { λ _. ⌜ now (out .exit) ≡ over (encodeTrace (traceHead (headerInputs (now (table .entry))))
         (unwind Assume (headerInputs (now (table .entry))) (listed (readTable (now (table .entry)))) bound)) (now (out .entry)) ⌝ }
 {
-    let inputs = table[3] as usize;
-    let a = write::put_header(129, total, inputs, count, out);
+    let inputs = file::inputs_of(table);
+    let a = write::put_header(trace::VERSION, total, inputs, count, out);
     let b = record::put_opening(inputs, out, a);
     let mut names = first_names();
     let f = Front {

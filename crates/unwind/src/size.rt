@@ -6,7 +6,7 @@ ghost use mathlib.Core.Path.{_≡_};
 ghost use mathlib.Core.Bool.{true, false};
 ghost use Prim.Native.Nat.{_+_, _*_, _≤_, _<_};
 ghost use lib.ListN.{length, drop};
-ghost use Rattle.file.specs.File.{recordOf};
+ghost use Rattle.file.specs.File.{inputRoom, recordOf};
 ghost use Rattle.file.specs.Shown.{isGood, listed};
 ghost use Rattle.table.specs.Table.{instr, readTable};
 ghost use Rattle.table.specs.Shown.{Ready};
@@ -21,9 +21,9 @@ struct Sizes {
 
 // The record of instruction i, which stands at a place of the table.
 fn instr_sizes(table: &[u8], at: usize, n: usize, i: usize) -> Sizes
-    requires { ⌜ (at < 65536) × (length (now table) < 65536) × (isGood (recordOf (instr 64 n) (drop at (now table))) ≡ true) ⌝ }
-    ensures { λ r. ⌜ (r .early ≡ sizeIn false i (recordOf (instr 64 n) (drop at (now (table .entry)))))
-        × (r .last ≡ sizeIn true i (recordOf (instr 64 n) (drop at (now (table .entry))))) × (r .early ≤ 131200) × (r .last ≤ 131200) ⌝ }
+    requires { ⌜ (at < 65536) × (length (now table) < 65536) × (isGood (recordOf (instr inputRoom n) (drop at (now table))) ≡ true) ⌝ }
+    ensures { λ r. ⌜ (r .early ≡ sizeIn false i (recordOf (instr inputRoom n) (drop at (now (table .entry)))))
+        × (r .last ≡ sizeIn true i (recordOf (instr inputRoom n) (drop at (now (table .entry))))) × (r .early ≤ 131200) × (r .last ≤ 131200) ⌝ }
 {
     let kind = table[at + 2];
     let size = tokens::expr_size(read::expr_at(table, at));
@@ -72,5 +72,5 @@ pub fn trace_size(table: &[u8], offsets: &[u16], n: usize, bound: usize) -> usiz
     ensures { λ r. ⌜ r ≡ traceSize (listed (readTable (now (table .entry)))) bound ⌝ }
 {
     let s = copy_sizes(table, offsets, n);
-    18 + (bound * s.early + s.last)
+    file::head_size(trace::VERSION) + (12 + (bound * s.early + s.last))
 }

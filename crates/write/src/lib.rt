@@ -6,7 +6,7 @@ ghost use lib.ListN.{length, set};
 ghost use Rattle.expr.specs.declared.File.the-variants.{Trace};
 ghost use Rattle.expr.specs.Number.{bytesOf};
 ghost use Rattle.expr.specs.Token.{Const, Symbol, tokenBytes};
-ghost use Rattle.file.specs.File.{header};
+ghost use Rattle.file.specs.File.{headSize, inputsLimit, headerVersion, headerSize, headerInputs, headOf, header};
 ghost use Rattle.write.specs.Splice.{Wrote};
 ghost use Rattle.write.specs.Decimal.{decimal};
 ghost use Rattle.write.specs.Shown.{digitCount};
@@ -58,13 +58,24 @@ pub fn put_symbol(s: usize, out: &mut [u8], at: usize) -> usize
 
 // A file's header, from the buffer's first byte.
 pub fn put_header(version: u8, total: usize, inputs: usize, n: usize, out: &mut [u8]) -> usize
-    requires { ⌜ (6 ≤ length (now out)) × (inputs ≤ 64) ⌝ }
-    ensures { λ r. ⌜ Wrote (now (out .entry)) 0 (header version total inputs n) (now (out .exit)) r ⌝ }
+    requires { ⌜ (headSize version ≤ length (now out)) × (inputs ≤ inputsLimit version) ⌝ }
+    ensures { λ r. ⌜ Wrote (now (out .entry)) 0 (header (record { version = version; inputs = inputs }) total n) (now (out .exit)) r
+        × (r ≡ headSize version) ⌝ }
 {
     let a = put_byte(version, out, 0);
     let b = put_two(total, out, a);
     let c = put_byte(inputs as u8, out, b);
     put_two(n, out, c)
+}
+
+// Another file's header, with a new length and count.
+pub fn put_header_of(s: &[u8], total: usize, n: usize, out: &mut [u8]) -> usize
+    requires { ⌜ (headerSize (now s) ≤ length (now s)) × (headerSize (now s) ≤ length (now out))
+        × (headerInputs (now s) ≤ inputsLimit (headerVersion (now s))) ⌝ }
+    ensures { λ r. ⌜ Wrote (now (out .entry)) 0 (header (headOf (now (s .entry))) total n) (now (out .exit)) r
+        × (r ≡ headerSize (now (s .entry))) ⌝ }
+{
+    put_header(file::version_of(s), total, file::inputs_of(s), n, out)
 }
 
 // The bytes of a part of another file.

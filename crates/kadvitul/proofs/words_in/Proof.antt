@@ -1,4 +1,5 @@
 use native.Mathlib.Omega.{arith}
+use Rattle.file.specs.File.{inputRoom}
 use Rattle.kadvitul.specs.InterfaceLaws.{no-words, all-words}
 use borrow.Author.Needs.{needs}
 use Rattle.kadvitul.proofs.words_in.Statement.{statement}
@@ -8,18 +9,22 @@ mul-if1 : tie.Need-mul-if1
 mul-if1 c = search needs
 
 returns : tie.Need-returns
+unfolding inputRoom
 returns c = no-words (c .before .before .before .pre) (λ k l e. omega (arith, c .if1 .taken))
 
 returns-2 : tie.Need-returns-2
+unfolding inputRoom
 returns-2 c = no-words (c .before .before .before .before .pre) (λ k l e. omega arith)
 
 decode-requires : tie.Need-decode-requires
+unfolding inputRoom
 decode-requires c κs = search needs
 
 same-length : tie.Need-same-length
 same-length c = search needs
 
 returns-3 : tie.Need-returns-3
+unfolding inputRoom
 returns-3 c =
     all-words (c .before .before .before .before .before .before .before .before .args .words .now)
     (c .before .before .before .before .before .before .before .before .pre) _ (c .before .before .decode .ensures) (omega arith)

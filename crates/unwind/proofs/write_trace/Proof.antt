@@ -7,11 +7,11 @@ use lib.ListN.{length, length-replicate}
 use borrow.Author.Needs.{needs}
 use Rattle.expr.specs.Lists.{all-at}
 use Rattle.expr.specs.Number.{Byte}
-use Rattle.file.specs.File.{headerInputs, Accepted}
+use Rattle.file.specs.File.{headOf, Accepted}
 use Rattle.file.specs.Shown.{listed}
 use Rattle.file.specs.FileLaws.{Header}
 use Rattle.file.specs.ReadingLaws.{reply-refuses}
-use Rattle.table.specs.Table.{readTable}
+use Rattle.table.specs.Table.{isTable, readTable}
 use Rattle.table.specs.Shown.{Ready}
 use Rattle.table.proofs.Answers.{offset-small, table-accepted, right-header, many, is-ready}
 use Rattle.unwind.proofs.Writing.{place-little}
@@ -27,10 +27,10 @@ module _ (c : tie.Else1) where
   abbrev n : ℕ
   n = c .before .before .read-table .result .count
 
-  accepted : readTable s ≡ Accepted (headerInputs s) (listed (readTable s))
+  accepted : readTable s ≡ Accepted (headOf s) (listed (readTable s))
   accepted = table-accepted (c .before .before .read-table .ensures) (c .if1 .left)
 
-  head : Header 1 1024 s
+  head : Header isTable 1024 s
   head = right-header (c .before .before .read-table .ensures) (c .if1 .left)
 
   ready : Ready s (c .before .before .read-table .last .1 .0) n

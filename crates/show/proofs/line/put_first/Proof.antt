@@ -3,6 +3,7 @@ use borrow.Author.Needs.{needs}
 use Rattle.show.proofs.line.put_first.Statement.{statement}
 use Rattle.show.proofs.line.put_first.Tie as tie
 use native.Mathlib.Omega.{arith}
+use Rattle.file.specs.File.{inputRoom}
 use Rattle.write.specs.SpliceLaws.{_then_}
 use Rattle.write.specs.DecimalLaws.{two-digits}
 
@@ -13,6 +14,7 @@ fit-part-requires : tie.Need-fit-part-requires
 fit-part-requires c κs = search needs
 
 cast-fit-decimal : tie.Need-cast-fit-decimal
+unfolding inputRoom
 cast-fit-decimal c = search needs
 
 fit-decimal-requires : tie.Need-fit-decimal-requires
@@ -28,6 +30,7 @@ cast-fit-decimal-2 : tie.Need-cast-fit-decimal-2
 cast-fit-decimal-2 c = search needs
 
 fit-decimal-requires-2 : tie.Need-fit-decimal-requires-2
+unfolding inputRoom
 fit-decimal-requires-2 c κs =
     let start = c .before .before .before .before .before .before .before .before .before .before .before .before .before .before .before
     .before in
@@ -38,6 +41,7 @@ slice-aggregate-fit-part-3 : tie.Need-slice-aggregate-fit-part-3
 slice-aggregate-fit-part-3 c = search needs
 
 fit-part-requires-3 : tie.Need-fit-part-requires-3
+unfolding inputRoom
 fit-part-requires-3 c κs =
     let start = c .before .before .before .before .before .before .before .before .before .before .before .before .before .before .before
     .before .before .before .before .before .before in
@@ -49,6 +53,7 @@ same-length : tie.Need-same-length
 same-length c = search needs
 
 returns : tie.Need-returns
+unfolding inputRoom
 returns c =
     let start = c .before .before .before .before .before .before .before .before .before .before .before .before .before .before .before
     .before .before .before .before .before .before .before .before .before in

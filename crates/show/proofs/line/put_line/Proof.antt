@@ -5,15 +5,15 @@ use mathlib.Core.Path.{_≡_}
 use lib.ListN.{length, drop}
 use borrow.Author.Needs.{needs}
 use Rattle.expr.specs.Number.{numberOf}
-use Rattle.trace.specs.Shown.{loose}
+use Rattle.trace.specs.Shown.{symbolRoom, loose}
 use Rattle.trace.proofs.Held.{Held, held-at}
 use Rattle.write.specs.SpliceLaws.{_then_, wrote-as}
 use Rattle.show.proofs.Lines.{expr-is-whole, assign-length, assign-line, test-length, test-line, five-bytes}
 use Rattle.show.proofs.line.put_line.Statement.{statement}
 use Rattle.show.proofs.line.put_line.Tie as tie
 
-here : (c : tie.Start) → Held 4160 loose (c .args .trace .now) (c .args .at)
-here c = held-at 4160 loose (c .args .trace .now) (c .args .at) (c .pre .1)
+here : (c : tie.Start) → Held symbolRoom loose (c .args .trace .now) (c .args .at)
+here c = held-at symbolRoom loose (c .args .trace .now) (c .args .at) (c .pre .1)
 
 some : (c : tie.After-expr-at) → 5 ≤ 2 + numberOf 2
     (drop (c .before .before .before .args .at) (c .before .before .before .args .trace .now))

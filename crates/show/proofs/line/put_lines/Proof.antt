@@ -2,6 +2,7 @@
 use Rattle.show.proofs.line.put_lines.Statement.{statement}
 use Rattle.show.proofs.line.put_lines.Tie as tie
 use native.Mathlib.Omega.{arith}
+use borrow.Author.Needs.{needs}
 use Prim.Native.Nat.{_-_}
 use Rattle.expr.specs.Lists.{all-at}
 use Rattle.expr.specs.Number.{Byte}
@@ -14,10 +15,13 @@ Inv-loop trace n out₀ to k₀ at₀ next₀ out k at next = Listing trace n ou
 abbrev μ-loop : tie.MeasureT-loop
 μ-loop trace n out₀ to k₀ at₀ next₀ out k at next = n - k
 
+header-size-requires : tie.Need-header-size-requires Inv-loop μ-loop
+header-size-requires c κs = search needs
+
 loop-holds : tie.Need-loop-holds Inv-loop μ-loop
 loop-holds c =
-    listing-start _ _ _ _ (all-at Byte (c .before .before .args .trace .now) (λ i h. c .before .shared-slice-known .given i .fits))
-    (c .before .before .pre .0) (c .before .before .pre .1) (c .before .before .pre .2)
+    listing-start _ _ _ _ (all-at Byte (c .before .before .before .args .trace .now) (λ i h. c .before .before .shared-slice-known .given i .fits))
+    (c .before .before .before .pre .0) (c .before .before .before .pre .1) (c .before .before .before .pre .2) (c .header-size .ensures)
 
 put-line-requires : tie.Need-put-line-requires Inv-loop μ-loop
 put-line-requires c κs = let v = c .before .before .loop .inv in let h = c .before .loop-test .taken in
@@ -72,6 +76,7 @@ put-lines-spec =
     (tie.spec
     Inv-loop
     μ-loop
+    header-size-requires
     loop-holds
     put-line-requires
     two-at-requires

@@ -9,21 +9,16 @@ use Rattle.show.proofs.Lines.{Told, told, told-text}
 here : (c : tie.Start) → Told (c .args .trace .now)
 here c = told (c .args .trace .now) (c .pre)
 
-shared-slice-read-wide : tie.Need-shared-slice-read-wide
-shared-slice-read-wide c = omega (arith, here (c .before .before .before) .long)
+inputs-of-requires : tie.Need-inputs-of-requires
+inputs-of-requires c κs = here (c .before .before) .long
 
-wide-requires : tie.Need-wide-requires
-wide-requires c κs = search needs
-
-two-at-requires : tie.Need-two-at-requires
-two-at-requires c κs = omega (arith, here (c .before .before .before .before) .long)
+count-of-requires : tie.Need-count-of-requires
+count-of-requires c κs = here (c .before .before .before) .long
 
 put-first-requires : tie.Need-put-first-requires
-put-first-requires c κs = (
-  omega (arith, c .before .before .wide .ensures .0, here (c .before .before .before .before .before .before) .inputs),
-  omega
-      (arith, c .before .two-at .ensures .0, here (c .before .before .before .before .before .before) .count),
-)
+put-first-requires c κs =
+    let told = here (c .before .before .before .before .before) in
+    (omega (arith, c .before .before .inputs-of .ensures, told .inputs), omega (arith, c .before .count-of .ensures, told .count))
 
 put-lines-requires : tie.Need-put-lines-requires
 put-lines-requires c κs = search needs
@@ -33,12 +28,12 @@ same-length c = search needs
 
 returns : tie.Need-returns
 returns c =
-    let start = c .before .before .before .before .before .before .before .before .before .before .before .before .before in
-    let wide = c .before .before .before .before .before .before .before .before .before .wide in
-    let two-at = c .before .before .before .before .before .before .before .before .two-at in
+    let start = c .before .before .before .before .before .before .before .before .before .before .before .before in
+    let inputs-of = c .before .before .before .before .before .before .before .before .before .inputs-of in
+    let count-of = c .before .before .before .before .before .before .before .before .count-of in
     let put-first = c .before .before .before .before .before .before .put-first in
     let put-lines = c .before .before .put-lines in (
-      wrote-as (told-text _ (here start) (wide .result) (two-at .result) (wide .ensures .0) (two-at .ensures .0))
+      wrote-as (told-text _ (here start) (inputs-of .result) (count-of .result) (inputs-of .ensures) (count-of .ensures))
           (put-first .ensures .0 then put-lines .ensures .0),
       put-lines .ensures .1,
     )
@@ -47,9 +42,8 @@ pub put-slice-spec : {M : Type 1} → statement M
 put-slice-spec =
     tie.close
     (tie.spec
-    shared-slice-read-wide
-    wide-requires
-    two-at-requires
+    inputs-of-requires
+    count-of-requires
     put-first-requires
     put-lines-requires
     same-length

@@ -1,15 +1,15 @@
 use borrow.Author.Needs.{needs}
 use Rattle.slice.proofs.back.keeps.Statement.{statement}
 use Rattle.slice.proofs.back.keeps.Tie as tie
-use Rattle.trace.specs.Shown.{loose}
+use Rattle.trace.specs.Shown.{symbolRoom, loose}
 use Rattle.trace.proofs.Held.{Held, held-at}
 use native.Mathlib.Omega.{arith}
 use mathlib.Core.Path.{_∙_}
 use Rattle.slice.specs.Shown.{inSet}
 use Rattle.slice.proofs.Records.{keeps-assign, keeps-assert, keeps-assume}
 
-here : (c : tie.Start) → Held 4160 loose (c .args .trace .now) (c .args .at)
-here c = held-at 4160 loose (c .args .trace .now) (c .args .at) (c .pre .2)
+here : (c : tie.Start) → Held symbolRoom loose (c .args .trace .now) (c .args .at)
+here c = held-at symbolRoom loose (c .args .trace .now) (c .args .at) (c .pre .2)
 
 add-kind : tie.Need-add-kind
 add-kind c = search needs

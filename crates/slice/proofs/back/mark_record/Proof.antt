@@ -1,15 +1,15 @@
 use mathlib.Core.Path.{ap}
 use borrow.Author.Needs.{needs}
 use Rattle.expr.specs.Shown.{isWhole}
-use Rattle.trace.specs.Shown.{loose}
+use Rattle.trace.specs.Shown.{symbolRoom, loose}
 use Rattle.trace.proofs.Held.{Held, held-at}
 use Rattle.trace.proofs.Moves.{expr-whole}
 use Rattle.slice.proofs.Records.{reads-marked}
 use Rattle.slice.proofs.back.mark_record.Statement.{statement}
 use Rattle.slice.proofs.back.mark_record.Tie as tie
 
-here : (c : tie.Start) → Held 4160 loose (c .args .trace .now) (c .args .at)
-here c = held-at 4160 loose (c .args .trace .now) (c .args .at) (c .pre .2)
+here : (c : tie.Start) → Held symbolRoom loose (c .args .trace .now) (c .args .at)
+here c = held-at symbolRoom loose (c .args .trace .now) (c .args .at) (c .pre .2)
 
 expr-at-requires : tie.Need-expr-at-requires
 expr-at-requires c κs = let h = here (c .before .before) in (h .whole, h .starts)

@@ -1,13 +1,13 @@
 use borrow.Author.Needs.{needs}
 use Rattle.slice.proofs.back.step_back.Statement.{statement}
 use Rattle.slice.proofs.back.step_back.Tie as tie
-use Rattle.trace.specs.Shown.{loose}
+use Rattle.trace.specs.Shown.{symbolRoom, loose}
 use Rattle.trace.proofs.Held.{Held, held-at}
 use native.Mathlib.Omega.{arith}
 use Rattle.slice.proofs.Records.{stepped-kept, stepped-dropped}
 
-here : (c : tie.Start) → Held 4160 loose (c .args .trace .now) (c .args .at)
-here c = held-at 4160 loose (c .args .trace .now) (c .args .at) (c .pre .5)
+here : (c : tie.Start) → Held symbolRoom loose (c .args .trace .now) (c .args .at)
+here c = held-at symbolRoom loose (c .args .trace .now) (c .args .at) (c .pre .5)
 
 keeps-requires : tie.Need-keeps-requires
 keeps-requires c κs = search needs

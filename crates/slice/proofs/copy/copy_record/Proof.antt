@@ -5,15 +5,15 @@ use lib.ListN.{length}
 use borrow.Author.Needs.{needs}
 use Rattle.expr.specs.Lists.{All, all-at}
 use Rattle.expr.specs.Number.{Byte}
-use Rattle.trace.specs.Shown.{loose}
+use Rattle.trace.specs.Shown.{symbolRoom, loose}
 use Rattle.trace.proofs.Held.{Held, held-at}
 use Rattle.write.specs.SpliceLaws.{wrote-as}
 use Rattle.slice.proofs.Copies.{part-is, none-written}
 use Rattle.slice.proofs.copy.copy_record.Statement.{statement}
 use Rattle.slice.proofs.copy.copy_record.Tie as tie
 
-here : (c : tie.Start) → Held 4160 loose (c .args .trace .now) (c .args .at)
-here c = held-at 4160 loose (c .args .trace .now) (c .args .at) (c .pre .1)
+here : (c : tie.Start) → Held symbolRoom loose (c .args .trace .now) (c .args .at)
+here c = held-at symbolRoom loose (c .args .trace .now) (c .args .at) (c .pre .1)
 
 bytes : (c : tie.After-shared-slice-known) → All Byte (c .before .args .trace .now)
 bytes c = all-at Byte (c .before .args .trace .now) (λ i h. c .shared-slice-known .given i .fits)

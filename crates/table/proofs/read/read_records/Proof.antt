@@ -19,8 +19,11 @@ Inv-loop table inputs n offsets₀ at₀ k₀ offsets at k =
 abbrev μ-loop : tie.MeasureT-loop
 μ-loop table inputs n offsets₀ at₀ k₀ offsets at k = n - k
 
+header-size-requires : tie.Need-header-size-requires Inv-loop μ-loop
+header-size-requires c κs = search needs
+
 loop-holds : tie.Need-loop-holds Inv-loop μ-loop
-loop-holds c = start _ _ _ _ _ _ (c .before .before .pre .0)
+loop-holds c = start _ _ _ _ _ _ (c .header-size .ensures) (c .before .before .before .pre .0)
 
 frame-at-requires : tie.Need-frame-at-requires Inv-loop μ-loop
 frame-at-requires c κs = c .before .loop .inv .inside
@@ -35,21 +38,21 @@ returns c =
 
 -- the record is there
 inside : (c : tie.Else1 Inv-loop μ-loop) → c .before .before .before .loop .at + (2 + c .before .frame-at .result)
-    ≤ length (c .before .before .before .before .before .before .args .table .now)
+    ≤ length (c .before .before .before .before .before .before .before .args .table .now)
 inside c =
-    record-inside (instr (c .before .before .before .before .before .before .args .inputs)
-    (c .before .before .before .before .before .before .args .n)) (c .before .before .before .before .before .before .args .table .now)
+    record-inside (instr (c .before .before .before .before .before .before .before .args .inputs)
+    (c .before .before .before .before .before .before .before .args .n)) (c .before .before .before .before .before .before .before .args .table .now)
     (c .before .before .before .loop .at) (c .before .frame-at .result) (c .before .frame-at .ensures) (c .if1 .left)
 
-cut : (c : tie.Else1 Inv-loop μ-loop) → recordOf (instr (c .before .before .before .before .before .before .args .inputs)
-    (c .before .before .before .before .before .before .args .n))
-    (drop (c .before .before .before .loop .at) (c .before .before .before .before .before .before .args .table .now))
-    ≡ instr (c .before .before .before .before .before .before .args .inputs) (c .before .before .before .before .before .before .args .n)
+cut : (c : tie.Else1 Inv-loop μ-loop) → recordOf (instr (c .before .before .before .before .before .before .before .args .inputs)
+    (c .before .before .before .before .before .before .before .args .n))
+    (drop (c .before .before .before .loop .at) (c .before .before .before .before .before .before .before .args .table .now))
+    ≡ instr (c .before .before .before .before .before .before .before .args .inputs) (c .before .before .before .before .before .before .before .args .n)
     (take (c .before .before .before .loop .at + (2 + c .before .frame-at .result) - (c .before .before .before .loop .at + 2))
-    (drop (c .before .before .before .loop .at + 2) (c .before .before .before .before .before .before .args .table .now)))
+    (drop (c .before .before .before .loop .at + 2) (c .before .before .before .before .before .before .before .args .table .now)))
 cut c =
-    record-cut (instr (c .before .before .before .before .before .before .args .inputs)
-    (c .before .before .before .before .before .before .args .n)) (c .before .before .before .before .before .before .args .table .now)
+    record-cut (instr (c .before .before .before .before .before .before .before .args .inputs)
+    (c .before .before .before .before .before .before .before .args .n)) (c .before .before .before .before .before .before .before .args .table .now)
     (c .before .before .before .loop .at) (c .before .frame-at .result) (c .before .frame-at .ensures) (c .if1 .left)
 
 add-body-reply : tie.Need-add-body-reply Inv-loop μ-loop
@@ -72,9 +75,9 @@ part-body-reply-end c = omega (arith, inside c)
 
 body-reply-requires : tie.Need-body-reply-requires Inv-loop μ-loop
 body-reply-requires c κs =
-    cut-long (instr (c .before .before .before .before .before .before .before .args .inputs)
-    (c .before .before .before .before .before .before .before .args .n))
-    (c .before .before .before .before .before .before .before .args .table .now) (c .before .before .before .before .loop .at) _
+    cut-long (instr (c .before .before .before .before .before .before .before .before .args .inputs)
+    (c .before .before .before .before .before .before .before .before .args .n))
+    (c .before .before .before .before .before .before .before .before .args .table .now) (c .before .before .before .before .loop .at) _
     (c .before .before .frame-at .ensures) (c .before .if1 .left)
 
 same-length-2 : tie.Need-same-length-2 Inv-loop μ-loop
@@ -91,7 +94,7 @@ cast-offsets c =
     omega (
       arith,
       c .before .before .before .before .before .before .loop .inv .inside,
-      c .before .before .before .before .before .before .before .before .before .pre .1,
+      c .before .before .before .before .before .before .before .before .before .before .pre .1,
     )
 
 mul-offsets : tie.Need-mul-offsets Inv-loop μ-loop
@@ -99,8 +102,8 @@ mul-offsets c =
     omega (
       arith,
       c .before .before .before .before .before .before .loop .inv .few,
-      c .before .before .before .before .before .before .before .before .before .pre .2,
-      c .before .before .before .before .before .before .before .before .before .good,
+      c .before .before .before .before .before .before .before .before .before .before .pre .2,
+      c .before .before .before .before .before .before .before .before .before .before .good,
     )
 
 slice-write-offsets : tie.Need-slice-write-offsets Inv-loop μ-loop
@@ -108,7 +111,7 @@ slice-write-offsets c =
     omega (
       arith,
       long _ _ _ _ _ _ (c .before .before .before .before .before .before .loop .inv),
-      c .before .before .before .before .before .before .before .before .before .pre .2,
+      c .before .before .before .before .before .before .before .before .before .before .pre .2,
     )
 
 add-at : tie.Need-add-at Inv-loop μ-loop
@@ -149,6 +152,7 @@ read-records-spec =
     (tie.spec
     Inv-loop
     μ-loop
+    header-size-requires
     loop-holds
     frame-at-requires
     same-length

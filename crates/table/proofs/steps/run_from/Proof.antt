@@ -7,7 +7,7 @@ use borrow.Author.Needs.{needs}
 use lib.ListN.{length}
 use Rattle.expr.specs.Lists.{All, all-at}
 use Rattle.expr.specs.Number.{Byte}
-use Rattle.file.specs.File.{headerInputs}
+use Rattle.file.specs.File.{headerInputs, headOf}
 use Rattle.file.specs.Shown.{isGood, listed}
 use Rattle.table.specs.Table.{readTable}
 use Rattle.table.specs.RunLaws.{left}
@@ -26,7 +26,7 @@ module _ (c : tie.After-shared-slice-known Inv-loop μ-loop) where
   bytes : All Byte (c .before .args .table .now)
   bytes = all-at Byte (c .before .args .table .now) (λ i h. c .shared-slice-known .given i .fits)
 
-  is-loaded : Loaded (c .before .args .table .now) (headerInputs (c .before .args .table .now))
+  is-loaded : Loaded (c .before .args .table .now) (headOf (c .before .args .table .now))
       (listed (readTable (c .before .args .table .now)))
   is-loaded = loaded (c .before .args .table .now) bytes (c .before .pre .1 .accepted)
 

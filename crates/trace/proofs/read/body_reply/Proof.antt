@@ -1,5 +1,7 @@
 use mathlib.Core.Path.{sym, _∙_}
 use Prim.Native.Nat.{_+_}
+use native.Mathlib.Omega.{arith}
+use Rattle.file.specs.FileLaws.{symbols-in-two-bytes}
 use Rattle.file.specs.Outcome.{Assume, Assert}
 use Rattle.trace.specs.Trace.{Seen}
 use Rattle.trace.specs.TraceLaws.{kind-assume, kind-assert}
@@ -33,7 +35,7 @@ returns-2 c =
     (rw (c .before .two-at .ensures .0) at (c .if3 .taken)))
 
 add-if4 : tie.Need-add-if4
-add-if4 c = search needs
+add-if4 c = omega (arith, c .before .before .before .before .before .before .before .pre .1, symbols-in-two-bytes)
 
 returns-3 : tie.Need-returns-3
 returns-3 c =

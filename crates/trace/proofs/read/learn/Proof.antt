@@ -1,6 +1,7 @@
 use native.Mathlib.Omega.{arith}
 use Prim.Native.Nat.{_+_}
 use Rattle.trace.specs.Shown.{seen}
+use Rattle.trace.specs.TraceLaws.{symbol-room}
 use Rattle.trace.proofs.Held.{Held, held-at}
 use Rattle.trace.proofs.Learning.{learns-symbol, learns-nothing}
 use borrow.Author.Needs.{needs}
@@ -31,6 +32,7 @@ slice-write-assigned c =
       c .two-at .ensures .0,
       c .before .before .before .before .before .pre .1,
       c .before .before .before .before .before .pre .2,
+      symbol-room,
     )
 
 add-result : tie.Need-add-result

@@ -11,7 +11,7 @@ use Rattle.file.specs.FileLaws.{record-unframed, record-inside, cut-long, recor
 use Rattle.file.specs.WalkLaws as Records
 use Rattle.trace.specs.Trace.{Stmt, stmt}
 use Rattle.trace.specs.TraceLaws.{stmt-low}
-use Rattle.trace.specs.Shown.{seen}
+use Rattle.trace.specs.Shown.{symbolRoom, seen}
 use Rattle.trace.proofs.Walk.{Walking, start, on}
 use Rattle.trace.proofs.read.read_records.Statement.{statement}
 use Rattle.trace.proofs.read.read_records.Tie as tie
@@ -23,8 +23,12 @@ Inv-loop trace inputs n offsets₀ assigned₀ at₀ k₀ least₀ offsets assig
 abbrev μ-loop : tie.MeasureT-loop
 μ-loop trace inputs n offsets₀ assigned₀ at₀ k₀ least₀ offsets assigned at k least = n - k
 
+header-size-requires : tie.Need-header-size-requires Inv-loop μ-loop
+header-size-requires c κs = search needs
+
 loop-holds : tie.Need-loop-holds Inv-loop μ-loop
-loop-holds c = start _ _ _ _ (c .before .before .pre .0)
+unfolding symbolRoom
+loop-holds c = start _ _ _ _ (c .header-size .ensures) (c .before .before .before .pre .0)
 
 frame-at-requires : tie.Need-frame-at-requires Inv-loop μ-loop
 frame-at-requires c κs = c .before .loop .inv .walk .inside
@@ -40,10 +44,10 @@ returns c =
 -- the record is there
 module _ (c : tie.Else1 Inv-loop μ-loop) where
   abbrev S : ℕ
-  S = c .before .before .before .before .before .before .args .inputs
+  S = c .before .before .before .before .before .before .before .args .inputs
 
   abbrev s : List ℕ
-  s = c .before .before .before .before .before .before .args .trace .now
+  s = c .before .before .before .before .before .before .before .args .trace .now
 
   abbrev at : ℕ
   at = c .before .before .before .loop .at
@@ -79,13 +83,14 @@ part-body-reply-end : tie.Need-part-body-reply-end Inv-loop μ-loop
 part-body-reply-end c = omega (arith, inside c)
 
 slice-aggregate-body-reply : tie.Need-slice-aggregate-body-reply Inv-loop μ-loop
+unfolding symbolRoom
 slice-aggregate-body-reply c = sym (c .before .before .before .before .before .loop .inv .long)
 
 body-reply-requires : tie.Need-body-reply-requires Inv-loop μ-loop
 body-reply-requires c κs =
     let r = c .before .before in (
       cut-long (one r) (s r) (at r) (len r) (r .before .frame-at .ensures) (r .if1 .left),
-      r .before .before .before .before .before .before .pre .2,
+      r .before .before .before .before .before .before .before .pre .2,
     )
 
 same-length-2 : tie.Need-same-length-2 Inv-loop μ-loop
@@ -109,7 +114,7 @@ cast-offsets c =
     omega (
       arith,
       c .before .before .before .before .before .before .before .loop .inv .walk .inside,
-      c .before .before .before .before .before .before .before .before .before .before .pre .1,
+      c .before .before .before .before .before .before .before .before .before .before .before .pre .1,
     )
 
 mul-offsets : tie.Need-mul-offsets Inv-loop μ-loop
@@ -117,8 +122,8 @@ mul-offsets c =
     omega (
       arith,
       c .before .before .before .before .before .before .before .loop .inv .walk .few,
-      c .before .before .before .before .before .before .before .before .before .before .pre .3,
-      c .before .before .before .before .before .before .before .before .before .before .good,
+      c .before .before .before .before .before .before .before .before .before .before .before .pre .3,
+      c .before .before .before .before .before .before .before .before .before .before .before .good,
     )
 
 slice-write-offsets : tie.Need-slice-write-offsets Inv-loop μ-loop
@@ -126,17 +131,18 @@ slice-write-offsets c =
     omega (
       arith,
       Records.long _ _ _ _ _ _ (c .before .before .before .before .before .before .before .loop .inv .walk),
-      c .before .before .before .before .before .before .before .before .before .before .pre .3,
+      c .before .before .before .before .before .before .before .before .before .before .before .pre .3,
     )
 
 slice-aggregate-learn : tie.Need-slice-aggregate-learn Inv-loop μ-loop
+unfolding symbolRoom
 slice-aggregate-learn c = sym (c .before .before .before .before .before .before .before .before .loop .inv .long)
 
 learn-requires : tie.Need-learn-requires Inv-loop μ-loop
 learn-requires c κs =
     let i = c .before .before .before .before .before .before .before .before .loop .inv in (
-      omega (arith, i .walk .inside, c .before .before .before .before .before .before .before .before .before .before .before .pre .1),
-      c .before .before .before .before .before .before .before .before .before .before .before .pre .2,
+      omega (arith, i .walk .inside, c .before .before .before .before .before .before .before .before .before .before .before .before .pre .1),
+      c .before .before .before .before .before .before .before .before .before .before .before .before .pre .2,
       i .long,
       ap isGood
           (statement-there (c .before) .1),
@@ -158,7 +164,7 @@ loop-again : tie.Need-loop-again Inv-loop μ-loop
 loop-again c =
     let r = c .before .before .before .before .before .before .before in
     let x = statement-there (c .before .before .before) in
-    on _ _ _ _ (r .before .before .before .before .before .before .pre .2) (r .before .before .before .loop .inv)
+    on _ _ _ _ (r .before .before .before .before .before .before .before .pre .2) (r .before .before .before .loop .inv)
     (r .before .before .loop-test .taken) (x .0) (x .1) (len r) (r .before .frame-at .ensures) (inside r) _
     (c .before .learn .ensures .1) _ (c .before .learn .ensures .0)
 
@@ -180,6 +186,7 @@ read-records-spec =
     (tie.spec
     Inv-loop
     μ-loop
+    header-size-requires
     loop-holds
     frame-at-requires
     same-length

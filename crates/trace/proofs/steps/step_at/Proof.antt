@@ -1,13 +1,13 @@
 use native.Mathlib.Omega.{arith}
-use Rattle.trace.specs.Shown.{loose}
+use Rattle.trace.specs.Shown.{symbolRoom, loose}
 use Rattle.trace.proofs.Held.{Held, held-at}
 use Rattle.trace.proofs.Moves.{assign-moves, test-fails, test-holds}
 use borrow.Author.Needs.{needs}
 use Rattle.trace.proofs.steps.step_at.Statement.{statement}
 use Rattle.trace.proofs.steps.step_at.Tie as tie
 
-held : (c : tie.Start) → Held 4160 loose (c .args .trace .now) (c .args .at)
-held c = held-at 4160 loose (c .args .trace .now) (c .args .at) (c .pre .2)
+held : (c : tie.Start) → Held symbolRoom loose (c .args .trace .now) (c .args .at)
+held c = held-at symbolRoom loose (c .args .trace .now) (c .args .at) (c .pre .2)
 
 value-at-requires : tie.Need-value-at-requires
 value-at-requires c κs = search needs

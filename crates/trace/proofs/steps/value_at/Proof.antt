@@ -1,14 +1,14 @@
 use mathlib.Core.Path.{ap, _∙_}
 use Rattle.expr.specs.Eval.{envOf}
 use Rattle.expr.specs.Shown.{isWhole}
-use Rattle.trace.specs.Shown.{loose}
+use Rattle.trace.specs.Shown.{symbolRoom, loose}
 use Rattle.trace.proofs.Held.{Held, held-at}
 use Rattle.trace.proofs.Moves.{expr-whole, expr-value}
 use Rattle.trace.proofs.steps.value_at.Statement.{statement}
 use Rattle.trace.proofs.steps.value_at.Tie as tie
 
-held : (c : tie.Start) → Held 4160 loose (c .args .trace .now) (c .args .at)
-held c = held-at 4160 loose (c .args .trace .now) (c .args .at) (c .pre .2)
+held : (c : tie.Start) → Held symbolRoom loose (c .args .trace .now) (c .args .at)
+held c = held-at symbolRoom loose (c .args .trace .now) (c .args .at) (c .pre .2)
 
 expr-at-requires : tie.Need-expr-at-requires
 expr-at-requires c κs = let h = held (c .before .before) in (h .whole, h .starts)

@@ -4,9 +4,10 @@ use Rattle.table.proofs.Held.{Held, held-at}
 use Rattle.unwind.proofs.Sizes.{Measured, measurable, measured, jumps-on, jumps-back, no-jump}
 use Rattle.unwind.proofs.size.instr_sizes.Statement.{statement}
 use Rattle.unwind.proofs.size.instr_sizes.Tie as tie
+use Rattle.file.specs.File.{inputRoom}
 
-held : (c : tie.Start) → Held 64 (c .args .n) (c .args .table .now) (c .args .at)
-held c = held-at 64 (c .args .n) (c .args .table .now) (c .args .at) (c .pre .2)
+held : (c : tie.Start) → Held inputRoom (c .args .n) (c .args .table .now) (c .args .at)
+held c = held-at inputRoom (c .args .n) (c .args .table .now) (c .args .at) (c .pre .2)
 
 size-is : (c : tie.After-expr-size) → Measured (held (c .before .before .before .before)) (c .expr-size .result)
 size-is c =
