@@ -4,13 +4,13 @@ use Prim.Native.Nat.{ℕ, _+_, _-_, _≤_, _<_}
 use native.Mathlib.Omega.{arith}
 use native.Mathlib.Numerals.{add-one}
 use mathlib.Core.Path.{_≡_, refl, sym, ap, _∙_, subst}
-use mathlib.Core.Bool.{Bool, true, cond}
+use mathlib.Core.Bool.{Bool, true, false, cond}
 use mathlib.Core.Option.{Option, none, some}
 use mathlib.Core.List.{List, _∷_}
 use lib.ListN.{length, drop, getD, length-drop}
 use lib.Seq.{drop-cons}
 use lib.Dec.{eqb, ltb}
-use borrow.Author.Tests.{eqb-true, eq-eqb, ne-eqb, le-leb, lt-leb}
+use borrow.Author.Tests.{eqb-true, eq-eqb, ne-eqb, le-leb, lt-leb, ltb-true, ltb-false}
 use Rattle.expr.specs.declared.File.{File}
 use Rattle.expr.specs.declared.File.the-variants.{Table, Trace}
 use Rattle.expr.specs.declared.token.Read.{Read}
@@ -19,9 +19,10 @@ use Rattle.expr.specs.Lists.{every, every-below}
 use Rattle.expr.specs.Number.{numberOf}
 use Rattle.expr.specs.Token.{Token, Const, Symbol, Un, Bin, Ite, symbolCode, symbolWidth, unaryCode, binaryCode, code, operand}
 use Rattle.expr.specs.Token.{operator, readToken}
-use Rattle.expr.specs.TokenLaws.{IsOperator, operator-is, operator-unary, operator-binary, operator-ite}
-use Rattle.expr.specs.Expr.{pops, readsOnly}
-use Rattle.expr.specs.Shown.{shownToken, popped, popsOf}
+use Rattle.expr.specs.TokenLaws.{IsOperator, operator-coded, operator-is}
+use Rattle.expr.specs.Expr.{pops}
+use Rattle.expr.specs.ExprLaws.{operator-pops}
+use Rattle.expr.specs.Shown.{shownToken, readSize, popped, popsOf, sizeOf}
 
 -- ---- operators by what they pop
 
@@ -39,19 +40,9 @@ pub pops-ite : popsOf 0x30 ≡ 3
 unfolding popsOf operator
 pops-ite = refl
 
-pub operator-pops : (t : Token) → IsOperator t → 0 < pops t
-operator-pops (Const n) o = absurd o
-operator-pops (Symbol s) o = absurd o
-operator-pops (Un u) o = omega arith
-operator-pops (Bin u) o = omega arith
-operator-pops Ite o = omega arith
-
-pub operator-reads : (may : ℕ → Bool) (t : Token) → IsOperator t → readsOnly may t ≡ true
-operator-reads may (Const n) o = absurd o
-operator-reads may (Symbol s) o = absurd o
-operator-reads may (Un u) o = refl
-operator-reads may (Bin u) o = refl
-operator-reads may Ite o = refl
+pub pops-of : (b : ℕ) (t : Token) → operator b ≡ some t → popsOf b ≡ pops t
+unfolding popsOf
+pops-of b t h = ap popped h
 
 -- ---- what the code's values say
 
@@ -83,33 +74,43 @@ pub record Operates (b : ℕ) (o : Option Token) : Type 0 where
   pub token : Token
   pub is : o ≡ some token
   pub by : operator b ≡ some token
+  pub coded : b ≡ code Table token
+  pub operates : IsOperator token
+  pub pops-some : 0 < popsOf b
 
 pub shown-operator : (o : Option Token) (b : ℕ) → shownToken o ≡ R.Operator b → Operates b o
-shown-operator none b h = absurd (let z : _≡_ {A = ℕ} 0 1 = cc in omega arith)
-shown-operator (some (Const n)) b h = absurd (let z : _≡_ {A = ℕ} 0 1 = cc in omega arith)
-shown-operator (some (Symbol s)) b h = absurd (let z : _≡_ {A = ℕ} 0 1 = cc in omega arith)
-shown-operator (some (Un u)) b h = record {
-  token = Un u;
-  is = refl;
-  by =
-      (let e : unaryCode u ≡ b = cc in subst (λ c. operator c ≡ some (Un u)) e (operator-unary u));
-}
-shown-operator (some (Bin u)) b h = record {
-  token = Bin u;
-  is = refl;
-  by =
-      (let e : binaryCode u ≡ b = cc in subst (λ c. operator c ≡ some (Bin u)) e (operator-binary u));
-}
-shown-operator (some Ite) b h = record {
-  token = Ite;
-  is = refl;
-  by =
-      (let e : 0x30 ≡ b = cc in subst (λ c. operator c ≡ some Ite) e operator-ite);
-}
+shown-operator o b h = go o h
+  where
+    by-code : (t : Token) → IsOperator t → code Table t ≡ b → Operates b (some t)
+    by-code t k e =
+        let q : operator b ≡ some t = subst (λ c. operator c ≡ some t) e (operator-coded t k) in
+        record {
+          token = t;
+          is = refl;
+          by = q;
+          coded = sym e;
+          operates = k;
+          pops-some = omega (arith, pops-of b t q, operator-pops t k);
+        }
 
-pub pops-of : (b : ℕ) (t : Token) → operator b ≡ some t → popsOf b ≡ pops t
-unfolding popsOf
-pops-of b t h = ap popped h
+    go : (o : Option Token) → shownToken o ≡ R.Operator b → Operates b o
+    go none h = absurd (let z : _≡_ {A = ℕ} 0 1 = cc in omega arith)
+    go (some (Const n)) h = absurd (let z : _≡_ {A = ℕ} 0 1 = cc in omega arith)
+    go (some (Symbol s)) h = absurd (let z : _≡_ {A = ℕ} 0 1 = cc in omega arith)
+    go (some (Un u)) h = by-code (Un u) tt (let e : unaryCode u ≡ b = cc in e)
+    go (some (Bin u)) h = by-code (Bin u) tt (let e : binaryCode u ≡ b = cc in e)
+    go (some Ite) h = by-code Ite tt (let e : 0x30 ≡ b = cc in e)
+
+pub read-size : (F : File) (o : Option Token) {t : Read} → t ≡ shownToken o → readSize F t ≡ sizeOf F o
+read-size F o q = ap (readSize F) q ∙ go o
+  where
+    go : (o : Option Token) → readSize F (shownToken o) ≡ sizeOf F o
+    go none = refl
+    go (some (Const n)) = refl
+    go (some (Symbol s)) = add-one (symbolWidth F)
+    go (some (Un u)) = refl
+    go (some (Bin u)) = refl
+    go (some Ite) = refl
 
 pub no-operator : (b : ℕ) → popsOf b ≡ 0 → operator b ≡ none
 unfolding popsOf
@@ -185,3 +186,24 @@ module _ (F : File) (s : List ℕ) (i : ℕ) (h : i < length s) where
   pub operator-there : (getD s i 0 ≡ 1 → ⊥) → (getD s i 0 ≡ symbolCode F → ⊥) → readToken F (drop i s) ≡ operator (getD s i 0)
   unfolding readToken
   operator-there p q = ap (readToken F) here ∙ rw (ne-eqb (getD s i 0) 1 p, ne-eqb (getD s i 0) (symbolCode F) q)
+
+  -- a token that stands there has all its bytes
+  module _ (q : 0 < sizeOf F (readToken F (drop i s))) where
+    enough : (k : ℕ) → (length s - i - 1 < k → readToken F (drop i s) ≡ none) → k ≤ length s - i - 1
+    enough k short = go (ltb (length s - i - 1) k) refl
+      where
+        go : (x : Bool) → ltb (length s - i - 1) k ≡ x → k ≤ length s - i - 1
+        go true l = absurd (omega (arith, q, ap (sizeOf F) (short (ltb-true (length s - i - 1) k l))))
+        go false l = ltb-false (length s - i - 1) k l
+
+    pub constant-enough : getD s i 0 ≡ 1 → 4 ≤ length s - i - 1
+    constant-enough e = enough 4 (constant-short e)
+
+    pub symbol-enough : getD s i 0 ≡ symbolCode F → symbolWidth F ≤ length s - i - 1
+    symbol-enough e = enough (symbolWidth F) (symbol-short e)
+
+    pub operator-shown : (getD s i 0 ≡ 1 → ⊥) → (getD s i 0 ≡ symbolCode F → ⊥)
+        → R.Operator (getD s i 0) ≡ shownToken (readToken F (drop i s))
+    operator-shown m n =
+        let r = operator-there m n in
+        sym (ap shownToken r ∙ some-operator (getD s i 0) (λ z. omega (arith, q, ap (sizeOf F) (r ∙ no-operator (getD s i 0) z))))

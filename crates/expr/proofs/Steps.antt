@@ -12,18 +12,19 @@ use lib.Seq.{getD-set-same, getD-set-other}
 use lib.Dec.{ltb, eqb}
 use borrow.Author.Tests.{ltb-true, ltb-false, lt-ltb, le-ltb, eqb-true, ne-eqb}
 use Rattle.expr.specs.declared.File.{File}
-use Rattle.expr.specs.declared.File.the-variants.{Table}
+use Rattle.expr.specs.declared.token.Read.{Read}
+use Rattle.expr.specs.declared.token.Read.the-variants as R
 use Rattle.expr.specs.declared.accept.After.the-variants.{Stop, Next}
 use Rattle.expr.specs.Word.{Unary, Binary, choice}
 use Rattle.expr.specs.Number.{numberOf}
-use Rattle.expr.specs.Token.{Token, Const, Symbol, Un, Bin, Ite, code, symbolCode, symbolWidth, operandCount, operator, readToken}
-use Rattle.expr.specs.TokenLaws.{IsOperator, operator-is, operator-ite, operator-count}
-use Rattle.expr.specs.Expr.{depthLimit, pops, after, fits}
-use Rattle.expr.specs.ExprLaws.{depthLimit-le, Fits, fits-is}
+use Rattle.expr.specs.Token.{Token, Const, Symbol, Un, Bin, Ite, symbolCode, symbolWidth, operandCount, operator, readToken}
+use Rattle.expr.specs.TokenLaws.{operator-is, operator-ite, operator-count}
+use Rattle.expr.specs.Expr.{depthLimit, below, pops, after, fits}
+use Rattle.expr.specs.ExprLaws.{operator-pops, depthLimit-le, Fits, fits-is}
 use Rattle.expr.specs.Eval.{Env, step, pushUnary, pushBinary, pushIte}
-use Rattle.expr.specs.Shown.{popped, popsOf, turned, goes, stackOf, unaryOf, binaryOf, sizeOf, nowhere, Stepped}
-use Rattle.expr.proofs.Reading.{pops-by-range, pops-of, operator-pops, constant-there, constant-short, symbol-there, symbol-short}
-use Rattle.expr.proofs.Reading.{operator-there}
+use Rattle.expr.specs.Shown.{shownToken, popped, popsOf, turned, goes, Stands, stackOf, unaryOf, binaryOf, sizeOf, nowhere, Stepped}
+use Rattle.expr.proofs.Reading.{pops-by-range, pops-of, shown-nothing, shown-symbol, constant-there, constant-enough, symbol-there}
+use Rattle.expr.proofs.Reading.{symbol-enough, operator-there}
 
 -- ---- the stack that an array holds
 
@@ -84,9 +85,19 @@ module _ (b : ℕ) (h : b < 256) (s : 0 < popsOf b) where
       go true e q = (eqb-true b 0x30 e, q)
       go false e q = absurd (omega arith)
 
--- a number from a on that is not a
-pub above : (a : ℕ) {b : ℕ} → a ≤ b → (b ≡ a → ⊥) → suc a ≤ b
-above a h n = omega (arith, n)
+-- none of the n numbers from a on, as a match with these keys tells it, beside what it told before
+abbrev pub Apart : (told : Type 0) (b a n : ℕ) → Type 0
+Apart told b a zero = told
+Apart told b a (suc n) = Apart told b a n × (b ≡ a + n → ⊥)
+
+module _ (told : Type 0) (b a : ℕ) where
+  pub above : (n : ℕ) → Apart told b a n → a ≤ b → a + n ≤ b
+  above zero r h = omega arith
+  above (suc n) r h = let l = above n (r .0) h in let m = r .1 in omega (arith, l, m)
+
+  pub told-before : (n : ℕ) → Apart told b a n → told
+  told-before zero r = r
+  told-before (suc n) r = told-before n (r .0)
 
 is-unary : (b : ℕ) → popsOf b ≡ 1 → (u : Unary) × (operator b ≡ some (Un u))
 unfolding popsOf
@@ -177,50 +188,56 @@ module _ (F : File) (may : ℕ → Bool) (d : ℕ) (o : Option Token) where
   some-token : goes (turned F may d o) ≡ true → o ≡ none → ⊥
   some-token q e = let z = subst (λ o. goes (turned F may d o) ≡ true) e q in let y : _≡_ {A = ℕ} 0 1 = cc in omega arith
 
+  token-size : goes (turned F may d o) ≡ true → 0 < sizeOf F o
+  token-size q = go o refl
+    where
+      go : (p : Option Token) → o ≡ p → 0 < sizeOf F p
+      go none e = absurd (some-token q e)
+      go (some t) e = omega arith
+
+-- so there is a token, and a symbol that it reads is below the number that may be read
+module _ (F : File) (S : ℕ) (e : List ℕ) (i : ℕ) (k : Stands F S e i) where
+  pub stands-size : 0 < sizeOf F (readToken F (drop i e))
+  stands-size = token-size F (below S) (k .0) (readToken F (drop i e)) (k .1)
+
+  pub not-nothing : {t : Read} → t ≡ shownToken (readToken F (drop i e)) → t ≡ R.Nothing → ⊥
+  not-nothing q p = let o = readToken F (drop i e) in some-token F (below S) (k .0) o (k .1) (shown-nothing o (sym q ∙ p))
+
+  pub symbol-below : {t : Read} {s : ℕ} → t ≡ shownToken (readToken F (drop i e)) → t ≡ R.Symbol s → s < S
+  symbol-below {s = s} q p =
+      let o = readToken F (drop i e) in
+      ltb-true s S (standing F (below S) (k .0) o (k .1) (Symbol s) (shown-symbol o s (sym q ∙ p)) .known)
+
 pub record Constant (F : File) (d : ℕ) (s : List ℕ) (i : ℕ) : Type 0 where
-  pub there : 4 ≤ length s - i - 1
   pub is : readToken F (drop i s) ≡ some (Const (numberOf 4 (drop (i + 1) s)))
   pub room : d < depthLimit F
 
-pub record Reads (F : File) (may : ℕ → Bool) (d : ℕ) (s : List ℕ) (i : ℕ) : Type 0 where
-  pub there : symbolWidth F ≤ length s - i - 1
+pub record Reads (F : File) (d : ℕ) (s : List ℕ) (i : ℕ) : Type 0 where
   pub is : readToken F (drop i s) ≡ some (Symbol (numberOf (symbolWidth F) (drop (i + 1) s)))
   pub room : d < depthLimit F
-  pub known : may (numberOf (symbolWidth F) (drop (i + 1) s)) ≡ true
 
 pub record Operator (F : File) (d : ℕ) (s : List ℕ) (i : ℕ) : Type 0 where
   pub is : readToken F (drop i s) ≡ operator (getD s i 0)
-  pub token : Token
-  pub named : operator (getD s i 0) ≡ some token
-  pub coded : (getD s i 0 ≡ code Table token) × IsOperator token
   pub one-byte : 1 ≡ sizeOf F (readToken F (drop i s))
   pub pops-some : 0 < popsOf (getD s i 0)
   pub enough : popsOf (getD s i 0) ≤ d
 
 module _ (F : File) (may : ℕ → Bool) (d : ℕ) (s : List ℕ) (i : ℕ) (h : i < length s)
     (q : goes (turned F may d (readToken F (drop i s))) ≡ true) where
-  pub constant-stands : getD s i 0 ≡ 1 → Constant F d s i
-  constant-stands e = go (ltb (length s - i - 1) 4) refl
-    where
-      go : (x : Bool) → ltb (length s - i - 1) 4 ≡ x → Constant F d s i
-      go true l = absurd (some-token F may d (readToken F (drop i s)) q (constant-short F s i h e (ltb-true (length s - i - 1) 4 l)))
-      go false l =
-          let t = ltb-false (length s - i - 1) 4 l in
-          let r = constant-there F s i h e t in
-          let f = standing F may d (readToken F (drop i s)) q (Const (numberOf 4 (drop (i + 1) s))) r in
-          record { there = t; is = r; room = omega (arith, f .room) }
+  standing-size : 0 < sizeOf F (readToken F (drop i s))
+  standing-size = token-size F may d (readToken F (drop i s)) q
 
-  pub symbol-stands : getD s i 0 ≡ symbolCode F → Reads F may d s i
-  symbol-stands e = go (ltb (length s - i - 1) (symbolWidth F)) refl
-    where
-      go : (x : Bool) → ltb (length s - i - 1) (symbolWidth F) ≡ x → Reads F may d s i
-      go true l =
-          absurd (some-token F may d (readToken F (drop i s)) q (symbol-short F s i h e (ltb-true (length s - i - 1) (symbolWidth F) l)))
-      go false l =
-          let t = ltb-false (length s - i - 1) (symbolWidth F) l in
-          let r = symbol-there F s i h e t in
-          let f = standing F may d (readToken F (drop i s)) q (Symbol (numberOf (symbolWidth F) (drop (i + 1) s))) r in
-          record { there = t; is = r; room = omega (arith, f .room); known = f .known }
+  pub constant-stands : getD s i 0 ≡ 1 → Constant F d s i
+  constant-stands e =
+      let r = constant-there F s i h e (constant-enough F s i h standing-size e) in
+      let f = standing F may d (readToken F (drop i s)) q (Const (numberOf 4 (drop (i + 1) s))) r in
+      record { is = r; room = omega (arith, f .room) }
+
+  pub symbol-stands : getD s i 0 ≡ symbolCode F → Reads F d s i
+  symbol-stands e =
+      let r = symbol-there F s i h e (symbol-enough F s i h standing-size e) in
+      let f = standing F may d (readToken F (drop i s)) q (Symbol (numberOf (symbolWidth F) (drop (i + 1) s))) r in
+      record { is = r; room = omega (arith, f .room) }
 
   pub operator-stands : (getD s i 0 ≡ 1 → ⊥) → (getD s i 0 ≡ symbolCode F → ⊥) → Operator F d s i
   operator-stands m n = go (operator (getD s i 0)) refl
@@ -236,9 +253,6 @@ module _ (F : File) (may : ℕ → Bool) (d : ℕ) (s : List ℕ) (i : ℕ) (h :
           let c = operator-is (getD s i 0) t e in
           record {
             is = r;
-            token = t;
-            named = e;
-            coded = c;
             one-byte = sym (ap (sizeOf F) (r ∙ e) ∙ ap suc (operator-count F t (c .1)));
             pops-some = omega (arith, operator-pops t (c .1));
             enough = omega (arith, f .enough);
@@ -266,10 +280,10 @@ module _ (F : File) (ρ : Env) (d : ℕ) (s : List ℕ) (i : ℕ) (w w′ : List
             (ap {B = List ℕ} (λ v. v ∷ stackOf w d) q),
       )
 
-  pub symbol-steps : (may : ℕ → Bool) (x y : ℕ) → Reads F may d s i → r ≡ d + 1 → w′ ≡ set w d x → x ≡ ρ y
+  pub symbol-steps : (x y : ℕ) → Reads F d s i → r ≡ d + 1 → w′ ≡ set w d x → x ≡ ρ y
       → y ≡ numberOf (symbolWidth F) (drop (i + 1) s)
       → Done (symbolWidth F + 1) (readToken F (drop i s))
-  symbol-steps may x y c e p q n =
+  symbol-steps x y c e p q n =
       subst (Done (symbolWidth F + 1)) (sym (c .is)) (
         add-one (symbolWidth F),
         leaf (Symbol (numberOf (symbolWidth F) (drop (i + 1) s))) x refl (c .room) e p

@@ -15,11 +15,11 @@ use Rattle.expr.specs.declared.accept.Checked.the-variants.{Fine, Broken
 use Rattle.expr.specs.declared.accept.After.{After}
 use Rattle.expr.specs.declared.accept.After.the-variants.{Stop, Next}
 use Rattle.expr.specs.Token.{Token, Const, Symbol, symbolWidth, operandCount, readToken}
-use Rattle.expr.specs.TokenLaws.{operator-is, operator-count, token-there}
+use Rattle.expr.specs.TokenLaws.{operator-count, token-there}
 use Rattle.expr.specs.Expr.{depthLimit, pops, after, fits, Parsed, Whole, Breaks, also, onToken, parseFrom}
-use Rattle.expr.specs.ExprLaws.{Fits, fits-is, is-fits, token-at, end-at}
+use Rattle.expr.specs.ExprLaws.{operator-reads, Fits, fits-is, is-fits, token-at, end-at}
 use Rattle.expr.specs.Shown.{shownToken, popsOf, turned, checked, goes, isWhole}
-use Rattle.expr.proofs.Reading.{operator-pops, operator-reads, shown-nothing, shown-constant, shown-symbol, shown-operator, pops-of}
+use Rattle.expr.proofs.Reading.{shown-nothing, shown-constant, shown-symbol, shown-operator, pops-of}
 
 -- ---- what a token leaves
 
@@ -70,11 +70,10 @@ module _ (F : File) (may : ℕ → Bool) (d : ℕ) where
         let w = shown-operator o b e in
         let t = w .token in
         let p : popsOf b ≡ pops t = pops-of b t (w .by) in
-        let q = operator-is b t (w .by) .1 in
-        let z : 0 < pops t = operator-pops t q in
+        let z : 0 < popsOf b = w .pops-some in
         ap (turned F may d) (w .is)
-        ∙ next t (d - popsOf b + 1) 1 (record { enough = omega arith; room = omega arith; known = operator-reads may t q }) (omega arith)
-        (ap suc (operator-count F t q))
+        ∙ next t (d - popsOf b + 1) 1 (record { enough = omega arith; room = omega arith; known = operator-reads may t (w .operates) })
+        (omega arith) (ap suc (operator-count F t (w .operates)))
 
     pub operator-short : (b : ℕ) → shownToken o ≡ R.Operator b → d < popsOf b → turned F may d o ≡ Stop
     operator-short b e h =

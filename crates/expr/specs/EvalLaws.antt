@@ -14,13 +14,25 @@ use Rattle.expr.specs.Word.{Word}
 use Rattle.expr.specs.WordLaws.{unary-lt, binary-lt, choice-lt}
 use Rattle.expr.specs.Token.{Token, Const, Symbol, Un, Bin, Ite}
 use Rattle.expr.specs.TokenLaws.{Holds}
-use Rattle.expr.specs.Expr.{pops, after, readsOnly, fits}
+use Rattle.expr.specs.Expr.{pops, after, readsOnly, fits, Whole}
 use Rattle.expr.specs.ExprLaws.{fits-is, Ok}
 use Rattle.expr.specs.Eval.{Env, envOf, update, step, eval, top, value, renameToken, rename, readsToken, reads}
+use Rattle.expr.specs.Shown.{valueOf}
 
 pub eval-append : (ρ : Env) (e f : List Token) (st : List ℕ) → eval ρ (e ++ f) st ≡ eval ρ f (eval ρ e st)
 eval-append ρ [] f st = refl
 eval-append ρ (t ∷ e) f st = eval-append ρ e f (step ρ t st)
+
+-- ---- the value is the word on top
+
+pub value-top : (ρ : Env) (e : List Token) {a : ℕ} {st : List ℕ} → eval ρ e [] ≡ a ∷ st → value ρ e ≡ a
+unfolding value
+value-top ρ e h = ap top h
+
+-- of bytes that are an expression
+pub value-whole : (ρ : Env) (e : List Token) → valueOf ρ (Whole e) ≡ value ρ e
+unfolding value
+value-whole ρ e = refl
 
 -- ---- values in a list
 

@@ -15,7 +15,7 @@ use Rattle.expr.specs.declared.File.the-variants.{Table, Trace}
 use Rattle.expr.specs.Lists.{All, and-both, both-and, or-false}
 use Rattle.expr.specs.Number.{Byte}
 use Rattle.expr.specs.Token.{Token, Const, Symbol, Un, Bin, Ite, operands, operandCount, exprBytes, readToken}
-use Rattle.expr.specs.TokenLaws.{Holds, operands-length, token-written, Stands, token-stands}
+use Rattle.expr.specs.TokenLaws.{Holds, IsOperator, operands-length, token-written, Stands, token-stands}
 use Rattle.expr.specs.Expr.{depthLimit, below, readable, pops, after, readsOnly, fits, Parsed, Whole, Breaks, also, onToken}
 use Rattle.expr.specs.Expr.{parseFrom, parse}
 use Rattle.expr.specs.Eval.{renameToken, rename}
@@ -48,6 +48,31 @@ module _ (may : ℕ → Bool) (limit d : ℕ) (t : Token) where
   is-fits f =
       both-and (leb (pops t) d) _ (le-leb (pops t) d (f .enough))
       (both-and (leb (after d t) limit) _ (le-leb (after d t) limit (f .room)) (f .known))
+
+-- an operand needs room, an operator needs what it pops
+pub fits-const : (may : ℕ → Bool) {limit d : ℕ} (n : ℕ) → d < limit → fits may limit d (Const n) ≡ true
+fits-const may {limit} {d} n h = is-fits may limit d (Const n) (record { enough = omega arith; room = omega arith; known = refl })
+
+pub fits-symbol : (may : ℕ → Bool) {limit d : ℕ} (s : ℕ) → d < limit → may s ≡ true → fits may limit d (Symbol s) ≡ true
+fits-symbol may {limit} {d} s h k = is-fits may limit d (Symbol s) (record { enough = omega arith; room = omega arith; known = k })
+
+pub operator-pops : (t : Token) → IsOperator t → 0 < pops t
+operator-pops (Const n) o = absurd o
+operator-pops (Symbol s) o = absurd o
+operator-pops (Un u) o = omega arith
+operator-pops (Bin u) o = omega arith
+operator-pops Ite o = omega arith
+
+pub operator-reads : (may : ℕ → Bool) (t : Token) → IsOperator t → readsOnly may t ≡ true
+operator-reads may (Const n) o = absurd o
+operator-reads may (Symbol s) o = absurd o
+operator-reads may (Un u) o = refl
+operator-reads may (Bin u) o = refl
+operator-reads may Ite o = refl
+
+pub fits-operator : (may : ℕ → Bool) {limit d : ℕ} (t : Token) → IsOperator t → pops t ≤ d → d ≤ limit → fits may limit d t ≡ true
+fits-operator may {limit} {d} t o e h =
+    is-fits may limit d t (record { enough = e; room = omega (arith, operator-pops t o); known = operator-reads may t o })
 
 reads-more : (may might : ℕ → Bool) → ((s : ℕ) → may s ≡ true → might s ≡ true) → (t : Token) → readsOnly may t ≡ true
     → readsOnly might t ≡ true

@@ -13,7 +13,7 @@ use lib.Arith.{lt-of-le-ne, digits-div, digits-mod}
 use lib.Dec.{eqb, ltb, leb}
 use lib.Pow.{pow-add, pow-mono, shl-shr, shr-shr, field, mod-mod-pow}
 use lib.Bits.{bitAnd, shifted-even}
-use borrow.Author.Tests.{ltb-true, ltb-false, lt-ltb, le-ltb, le-leb, lt-leb, eqb-true, eqb-false, eq-eqb, ne-eqb}
+use borrow.Author.Tests.{ltb-true, ltb-false, lt-ltb, le-ltb, leb-true, leb-false, le-leb, lt-leb, eqb-true, eqb-false, eq-eqb, ne-eqb}
 use Rattle.expr.specs.Word.{Neg, Zero, Add, Sub, Mul, Udiv, Urem, And, Shl, Lshr, Equal, Ult, Ule, Slt}
 use Rattle.expr.specs.Word.{test, remainderByZero, unary, binary, choice, bit}
 use Rattle.expr.specs.WordLaws.{raised, same-ltb, halved, slt-raised}
@@ -169,6 +169,13 @@ pub zero-of-another : (w a : ℕ) → a ≢ 0 → unary w Zero a ≡ 0
 unfolding unary
 zero-of-another w a h = rw (ne-eqb a 0 h)
 
+pub zero-tests : (w a : ℕ) → unary w Zero a ≡ test (eqb a 0)
+zero-tests w a = go (eqb a 0) refl
+  where
+    go : (t : Bool) → eqb a 0 ≡ t → unary w Zero a ≡ test t
+    go true e = ap (unary w Zero) (eqb-true a 0 e) ∙ zero-of-zero w
+    go false e = zero-of-another w a (eqb-false a 0 e)
+
 -- ---- equal: 1 if the words are equal, else 0
 
 pub equal-holds : (w a b : ℕ) → a ≡ b → binary w Equal a b ≡ 1
@@ -188,6 +195,13 @@ ule-holds w a b h = rw (le-leb a b h)
 pub ule-fails : (w a b : ℕ) → b < a → binary w Ule a b ≡ 0
 unfolding binary
 ule-fails w a b h = rw (lt-leb a b h)
+
+pub ule-tests : (w a b : ℕ) → binary w Ule a b ≡ test (leb a b)
+ule-tests w a b = go (leb a b) refl
+  where
+    go : (t : Bool) → leb a b ≡ t → binary w Ule a b ≡ test t
+    go true e = ule-holds w a b (leb-true a b e)
+    go false e = ule-fails w a b (leb-false a b e)
 
 -- ---- ult: ule and not equal
 

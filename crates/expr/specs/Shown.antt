@@ -29,6 +29,13 @@ shownToken (some (Un o)) = R.Operator (unaryCode o)
 shownToken (some (Bin o)) = R.Operator (binaryCode o)
 shownToken (some Ite) = R.Operator 0x30
 
+-- the bytes that it has
+abbrev pub readSize : File → Read → ℕ
+readSize F R.Nothing = 0
+readSize F (R.Constant n) = 5
+readSize F (R.Symbol s) = symbolWidth F + 1
+readSize F (R.Operator b) = 1
+
 abbrev pub popped : Option Token → ℕ
 popped none = 0
 popped (some t) = pops t

@@ -108,6 +108,14 @@ IsOperator (Un o) = Unit {0}
 IsOperator (Bin o) = Unit {0}
 IsOperator Ite = Unit {0}
 
+-- every operator is read by its code
+pub operator-coded : (t : Token) → IsOperator t → operator (code Table t) ≡ some t
+operator-coded (Const n) o = absurd o
+operator-coded (Symbol s) o = absurd o
+operator-coded (Un u) o = operator-unary u
+operator-coded (Bin u) o = operator-binary u
+operator-coded Ite o = operator-ite
+
 all-operators : All IsOperator operators
 all-operators = (tt, (tt, (tt, (tt, (tt, (tt, (tt, (tt, (tt, (tt, (tt, (tt, (tt, (tt, (tt, (tt, (tt, (tt, tt))))))))))))))))))
 

@@ -1,11 +1,11 @@
 // The value of an expression that was checked.
 use super::File;
-use super::number;
 use super::reader;
 use super::reader::Reader;
 use super::stack;
 use super::stack::Stack;
 use super::token;
+use super::token::Read;
 use super::word;
 ghost use mathlib.Core.Path.{_≡_};
 ghost use mathlib.Core.Bool.{true};
@@ -102,21 +102,20 @@ fn operand_at(e: &[u8], at: usize, file: File, vals: &[u32]) -> Operand
     requires { ⌜ (at < length (now e)) × Stands file (length (now vals)) (now e) at ⌝ }
     ensures { λ r. ⌜ r ≡ operandOf file (envOf (now (vals .entry))) (readToken file (drop at (now (e .entry)))) ⌝ }
 {
-    let code = e[at];
-    if code == 0x01 {
-        return Operand {
-            size: 5,
-            word: number::word_at(e, at + 1),
-        };
+    let t = token::token_here(e, at, file);
+    let size = token::size_of(t, file);
+    match t {
+        Read::Constant(w) => Operand {
+            size: size,
+            word: w,
+        },
+        Read::Symbol(s) => Operand {
+            size: size,
+            word: vals[s],
+        },
+        Read::Operator(_) => Operand { size: 0, word: 0 },
+        Read::Nothing => Operand { size: 0, word: 0 },
     }
-    if code == token::symbol_code(file) {
-        let symbol = token::symbol_at(e, at + 1, file);
-        return Operand {
-            size: token::symbol_width(file) + 1,
-            word: vals[symbol],
-        };
-    }
-    Operand { size: 0, word: 0 }
 }
 
 // The operator at a place, on the first `depth` words; the words that are held then.

@@ -6,7 +6,7 @@ ghost use Prim.Native.Nat.{_+_, _≤_, _<_};
 ghost use lib.ListN.{length, drop};
 ghost use Rattle.expr.specs.Number.{numberOf};
 ghost use Rattle.expr.specs.Token.{symbolCode, symbolWidth, readToken};
-ghost use Rattle.expr.specs.Shown.{shownToken, popsOf};
+ghost use Rattle.expr.specs.Shown.{shownToken, readSize, popsOf, sizeOf};
 
 // What stands at a place of an expression: nothing that the file may hold, a constant, a symbol, or an operator by its code.
 pub enum Read {
@@ -80,4 +80,31 @@ pub fn token_at(e: &[u8], at: usize, file: File) -> Read
         return Read::Nothing;
     }
     Read::Operator(code)
+}
+
+// The token at a place of an expression that was checked: nothing is asked about the bytes that are left.
+pub fn token_here(e: &[u8], at: usize, file: File) -> Read
+    requires { ⌜ (at < length (now e)) × (0 < sizeOf file (readToken file (drop at (now e)))) ⌝ }
+    ensures { λ r. ⌜ r ≡ shownToken (readToken file (drop at (now (e .entry)))) ⌝ }
+{
+    let code = e[at];
+    if code == 0x01 {
+        return Read::Constant(number::word_at(e, at + 1));
+    }
+    if code == symbol_code(file) {
+        return Read::Symbol(symbol_at(e, at + 1, file));
+    }
+    Read::Operator(code)
+}
+
+// The bytes that a token has in a kind of file.
+pub fn size_of(t: Read, file: File) -> usize
+    ensures { λ r. ⌜ r ≡ readSize file t ⌝ }
+{
+    match t {
+        Read::Nothing => 0,
+        Read::Constant(_) => 5,
+        Read::Symbol(_) => symbol_width(file) + 1,
+        Read::Operator(_) => 1,
+    }
 }

@@ -102,15 +102,8 @@ returns-13 c = rw (c .before .match .keys13) (c .slt .ensures)
 
 returns-14 : tie.Need-returns-14
 unfolding operator
-returns-14 c = let h = (above 0x2C (above 0x2B
-    (above 0x2A (above 0x29 (above 0x28 (above 0x27
-    (above 0x26 (above 0x25 (above 0x24 (above 0x23
-    (above 0x22 (above 0x21 (above 0x20 (c .before .before .pre .0) (c .before .match .rest .0 .0 .0 .0 .0 .0 .0 .0 .0 .0 .0 .0 .1))
-    (c .before .match .rest .0 .0 .0 .0 .0 .0 .0 .0 .0 .0 .0 .1)) (c .before .match .rest .0 .0 .0 .0 .0 .0 .0 .0 .0 .0 .1))
-    (c .before .match .rest .0 .0 .0 .0 .0 .0 .0 .0 .0 .1)) (c .before .match .rest .0 .0 .0 .0 .0 .0 .0 .0 .1))
-    (c .before .match .rest .0 .0 .0 .0 .0 .0 .0 .1)) (c .before .match .rest .0 .0 .0 .0 .0 .0 .1))
-    (c .before .match .rest .0 .0 .0 .0 .0 .1)) (c .before .match .rest .0 .0 .0 .0 .1)) (c .before .match .rest .0 .0 .0 .1))
-    (c .before .match .rest .0 .0 .1)) (c .before .match .rest .0 .1)) (c .before .match .rest .1)) in
+returns-14 c =
+    let h = above (Unit {0}) _ 0x20 13 (c .before .match .rest) (c .before .before .pre .0) in
     let e : c .before .before .args .code ≡ 0x2D = omega arith in
     rw e (c .ule .ensures)
 

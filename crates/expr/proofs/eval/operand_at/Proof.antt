@@ -1,118 +1,83 @@
--- The token that stands at the offset is a constant, a symbol or an operator, by its code.
-use Prim.Native.Nat.{ℕ, _+_}
+-- What is read of the token says what it puts on the stack.
+use Prim.Native.Nat.{_<_}
 use native.Mathlib.Omega.{arith}
-use mathlib.Core.Path.{_≡_, sym, ap, ap₂, _∙_, subst}
-use mathlib.Core.Bool.{Bool, true}
-use lib.Dec.{ltb}
-use lib.ListN.{length}
-use borrow.Author.Tests.{ltb-true}
-use Rattle.expr.specs.declared.eval.Operand.{Operand}
-use Rattle.expr.specs.TokenLaws.{symbolWidth-le}
-use Rattle.expr.specs.Expr.{below}
-use Rattle.expr.specs.Eval.{envOf}
-use Rattle.expr.specs.Shown.{operandOf}
-use Rattle.expr.proofs.Steps.{Constant, Reads, Operator, constant-stands, symbol-stands, operator-stands}
-use Rattle.expr.proofs.Operands.{operator-none}
+use mathlib.Core.Option.{Option}
+use lib.ListN.{length, drop}
 use borrow.Author.Needs.{needs}
+use Rattle.expr.specs.Token.{Token, readToken}
+use Rattle.expr.specs.Eval.{envOf}
+use Rattle.expr.proofs.Steps.{stands-size, symbol-below}
+use Rattle.expr.proofs.Operands.{constant-put, symbol-put, operator-put, nothing-put}
 use Rattle.expr.proofs.eval.operand_at.Statement.{statement}
 use Rattle.expr.proofs.eval.operand_at.Tie as tie
 
-abbrev operand : (size word : ℕ) → Operand
-operand n w = record { size = n; word = w }
+abbrev here : tie.Start → Option Token
+here c = readToken (c .args .file) (drop (c .args .at) (c .args .e .now))
 
--- what the token is, by its code, above the depth that the contract names
-abbrev may : tie.Start → ℕ → Bool
-may c = below (length (c .args .vals .now))
+token-here-requires : tie.Need-token-here-requires
+token-here-requires c κs = let s = c .before .before in
+    (s .pre .0, stands-size (s .args .file) (length (s .args .vals .now)) (s .args .e .now) (s .args .at) (s .pre .1))
 
-abbrev deep : tie.Start → ℕ
-deep c = c .pre .1 .0
+size-of-requires : tie.Need-size-of-requires
+size-of-requires c κs = search needs
 
-constant : (c : tie.Then1) → Constant (c .before .before .before .before .args .file) (deep (c .before .before .before .before))
-    (c .before .before .before .before .args .e .now) (c .before .before .before .before .args .at)
-constant c = let s = c .before .before .before .before in constant-stands (s .args .file) (may s) (deep s) (s .args .e .now) (s .args .at)
-    (s .pre .0) (s .pre .1 .1) (c .if1 .taken)
+enum-known-t : tie.Need-enum-known-t
+enum-known-t c = search needs
 
-symbol : (c : tie.Then2) → Reads (c .before .before .before .before .before .before .args .file)
-    (may (c .before .before .before .before .before .before)) (deep (c .before .before .before .before .before .before))
-    (c .before .before .before .before .before .before .args .e .now) (c .before .before .before .before .before .before .args .at)
-symbol c =
-    let s = c .before .before .before .before .before .before in
-    symbol-stands (s .args .file) (may s) (deep s) (s .args .e .now) (s .args .at) (s .pre .0) (s .pre .1 .1)
-    (c .if2 .taken ∙ c .before .symbol-code .ensures)
+enum-known-t-2 : tie.Need-enum-known-t-2
+enum-known-t-2 c = search needs
 
-op : (c : tie.Else2) → Operator (c .before .before .before .before .before .before .args .file)
-    (deep (c .before .before .before .before .before .before)) (c .before .before .before .before .before .before .args .e .now)
-    (c .before .before .before .before .before .before .args .at)
-op c =
-    let s = c .before .before .before .before .before .before in
-    operator-stands (s .args .file) (may s) (deep s) (s .args .e .now) (s .args .at) (s .pre .0) (s .pre .1 .1)
-    (c .before .before .if1 .left)
-    (λ e. c .if2 .left (e ∙ sym (c .before .symbol-code .ensures)))
+inside : (c : tie.After-known-told2) → c .before .t2 .given .0 .0
+    < length (c .before .before .before .before .before .before .before .args .vals .now)
+inside c = let s = c .before .before .before .before .before .before .before in
+    symbol-below (s .args .file) (length (s .args .vals .now)) (s .args .e .now) (s .args .at) (s .pre .1)
+    (c .before .before .before .before .token-here .ensures) (c .before .t2 .given .1)
 
-shared-slice-read-code : tie.Need-shared-slice-read-code
-shared-slice-read-code c = search needs
+mul-t10 : tie.Need-mul-t10
+mul-t10 c = omega (arith, inside c)
 
-add-word-at : tie.Need-add-word-at
-add-word-at c = search needs
+shared-slice-read-t12 : tie.Need-shared-slice-read-t12
+shared-slice-read-t12 c = inside (c .before)
 
-word-at-requires : tie.Need-word-at-requires
-word-at-requires c κs = omega (arith, constant c .there)
+enum-told : tie.Need-enum-told
+enum-told c = search needs
+
+enum-told-2 : tie.Need-enum-told-2
+enum-told-2 c = search needs
 
 returns : tie.Need-returns
-returns c = let s = c .before .before .before .before .before in ap (operand 5) (c .word-at .ensures)
-    ∙ sym (ap (operandOf (s .args .file) (envOf (s .args .vals .now))) (constant (c .before) .is))
-
-symbol-code-requires : tie.Need-symbol-code-requires
-symbol-code-requires c κs = search needs
-
-add-symbol-at : tie.Need-add-symbol-at
-add-symbol-at c = search needs
-
-symbol-at-requires : tie.Need-symbol-at-requires
-symbol-at-requires c κs = omega (arith, symbol c .there)
-
-symbol-width-requires : tie.Need-symbol-width-requires
-symbol-width-requires c κs = search needs
-
-add-t13 : tie.Need-add-t13
-add-t13 c =
-    omega (arith, c .symbol-width .ensures, symbolWidth-le (c .before .before .before .before .before .before .before .before .args .file))
-
-mul-t14 : tie.Need-mul-t14
-mul-t14 c = search needs
-
-shared-slice-read-t16 : tie.Need-shared-slice-read-t16
-shared-slice-read-t16 c =
-    ltb-true _ _ (subst (λ n. ltb n (length (c .before .before .before .before .before .before .before .before .before .args .vals .now))
-    ≡ true) (sym (c .before .before .symbol-at .ensures .0)) (symbol (c .before .before .before) .known))
+returns c = let s = c .before .before .before .before .before .before .before in
+    constant-put (s .args .file) (envOf (s .args .vals .now)) (here s) (c .before .before .before .before .token-here .ensures)
+    (c .before .before .before .size-of .ensures) (c .before .t .given .1)
 
 returns-2 : tie.Need-returns-2
-returns-2 c =
-    let s = c .before .before .before .before .before .before .before .before .before in
-    ap₂ operand (ap (λ n. n + 1) (c .before .symbol-width .ensures))
-    (ap (envOf (s .args .vals .now)) (c .before .before .symbol-at .ensures .0))
-    ∙ sym (ap (operandOf (s .args .file) (envOf (s .args .vals .now))) (symbol (c .before .before .before) .is))
+returns-2 c = let s = c .before .before .before .before .before .before .before .before in
+    symbol-put (s .args .file) (envOf (s .args .vals .now)) (here s) (c .before .before .before .before .before .token-here .ensures)
+    (c .before .before .before .before .size-of .ensures) (c .before .before .t2 .given .1)
 
 returns-3 : tie.Need-returns-3
-returns-3 c =
-    let s = c .before .before .before .before .before .before in
-    sym (ap (operandOf (s .args .file) (envOf (s .args .vals .now))) (op c .is)
-    ∙ operator-none (s .args .file) (envOf (s .args .vals .now)) _ (op c .pops-some))
+returns-3 c = let s = c .before .before .before .before .before .before in
+    operator-put (s .args .file) (envOf (s .args .vals .now)) (here s) (c .before .before .before .token-here .ensures)
+    (c .enum-told .given .1)
+
+returns-4 : tie.Need-returns-4
+returns-4 c = let s = c .before .before .before .before .before .before in
+    nothing-put (s .args .file) (envOf (s .args .vals .now)) (here s) (c .before .before .before .token-here .ensures)
+    (c .enum-told2 .given .1)
 
 pub operand-at-spec : {M : Type 1} → statement M
 operand-at-spec =
     tie.close
     (tie.spec
-    shared-slice-read-code
-    add-word-at
-    word-at-requires
+    token-here-requires
+    size-of-requires
+    enum-known-t
+    enum-known-t-2
+    mul-t10
+    shared-slice-read-t12
+    enum-told
+    enum-told-2
     returns
-    symbol-code-requires
-    add-symbol-at
-    symbol-at-requires
-    symbol-width-requires
-    add-t13
-    mul-t14
-    shared-slice-read-t16
     returns-2
-    returns-3)
+    returns-3
+    returns-4)
