@@ -13,7 +13,7 @@ use Rattle.expr.specs.declared.File.the-variants.{Table}
 use Rattle.expr.specs.Number.{numberOf}
 use Rattle.expr.specs.Expr.{below, Whole, parse}
 use Rattle.expr.specs.Eval.{Env, envOf, value}
-use Rattle.expr.specs.EvalLaws.{update-set}
+use Rattle.expr.specs.EvalLaws.{update-set, value-whole}
 use Rattle.expr.specs.Shown.{valueOf}
 use Rattle.file.specs.Outcome.{Bound, Failed}
 use Rattle.file.specs.File.{Body, recordOf}
@@ -41,8 +41,7 @@ module _ {T n : ℕ} {s : List ℕ} {at : ℕ} (h : Held T n s at) where
 
   pub expr-value : (ρ : Env) {e : List ℕ} → e ≡ exprPart s at
       → valueOf ρ (parse Table (below T) e) ≡ valueIn (recordOf (instr T n) (drop at s)) ρ
-  unfolding value
-  expr-value ρ q = ap (valueOf ρ) (expr-whole q) ∙ sym (ap (λ b. valueIn b ρ) (h .is))
+  expr-value ρ q = ap (valueOf ρ) (expr-whole q) ∙ value-whole ρ (exprOf (h .instruction)) ∙ sym (ap (λ b. valueIn b ρ) (h .is))
 
 module _ {n : ℕ} {s : List ℕ} {at : ℕ} (vals : List ℕ) (h : Held (length vals) n s at) (K i r w : ℕ)
     (v : w ≡ valueIn (recordOf (instr (length vals) n) (drop at s)) (envOf vals)) where

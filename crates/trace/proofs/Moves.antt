@@ -9,7 +9,7 @@ use Rattle.expr.specs.declared.File.the-variants.{Trace}
 use Rattle.expr.specs.Number.{numberOf}
 use Rattle.expr.specs.Expr.{below, Whole, parse}
 use Rattle.expr.specs.Eval.{Env, envOf, value}
-use Rattle.expr.specs.EvalLaws.{update-set}
+use Rattle.expr.specs.EvalLaws.{update-set, value-whole}
 use Rattle.expr.specs.Shown.{valueOf}
 use Rattle.file.specs.Outcome.{Failed}
 use Rattle.trace.specs.declared.steps.Move.{Move}
@@ -26,8 +26,7 @@ module _ {s : List ℕ} {at : ℕ} (h : Held symbolRoom loose s at) where
 
   pub expr-value : (ρ : Env) (T : ℕ) → T ≡ symbolRoom → {e : List ℕ} → e ≡ exprPart s at
       → valueOf ρ (parse Trace (below T) e) ≡ valueIn (held (drop at s)) ρ
-  unfolding value
-  expr-value ρ T t q = ap (valueOf ρ) (expr-whole T t q) ∙ sym (ap (λ b. valueIn b ρ) (h .is))
+  expr-value ρ T t q = ap (valueOf ρ) (expr-whole T t q) ∙ value-whole ρ (exprOf (h .statement)) ∙ sym (ap (λ b. valueIn b ρ) (h .is))
 
 module _ {s : List ℕ} {at : ℕ} (h : Held symbolRoom loose s at) (cells : List ℕ) (w : ℕ) (v : w ≡ valueIn (held (drop at s)) (envOf cells)) where
   abbrev ρ : Env
