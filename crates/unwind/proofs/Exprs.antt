@@ -1,28 +1,27 @@
 -- The loops over a table's expression, which write it as a trace's or measure it: what the token at a place is, and how the rest goes on.
 use Prim.Native.Nat.{ℕ, zero, suc, _+_, _*_, _≤_, _<_}
 use native.Mathlib.Omega.{arith}
-use mathlib.Core.Path.{_≡_, refl, sym, ap, _∙_, subst}
-use mathlib.Core.Bool.{Bool, true, false, cond}
+use mathlib.Core.Path.{_≡_, refl, sym, ap, _∙_}
+use mathlib.Core.Bool.{true}
+use mathlib.Core.Option.{Option, none, some}
 use mathlib.Core.List.{List, [], _∷_, _++_}
 use lib.ListN.{length, drop, getD, length-append}
-use lib.Dec.{eqb}
-use borrow.Author.Tests.{eqb-true, eqb-false}
 use Rattle.expr.specs.declared.File.the-variants.{Table, Trace}
-use Rattle.expr.specs.Number.{numberOf}
+use Rattle.expr.specs.declared.token.Read.{Read}
+use Rattle.expr.specs.declared.token.Read.the-variants as R
 use Rattle.expr.specs.Token.{Token, Const, Symbol, Un, Bin, Ite, code, tokenBytes, exprBytes, readToken}
 use Rattle.expr.specs.TokenLaws.{IsOperator}
 use Rattle.expr.specs.Expr.{below, parse}
 use Rattle.expr.specs.Eval.{renameToken, rename}
-use Rattle.expr.specs.Shown.{isWhole, tokensOf, sizeOf, Stands}
-use Rattle.expr.proofs.Steps.{Constant, Reads, constant-stands, symbol-stands, operator-stands}
-use Rattle.expr.proofs.Rests.{Rest, tokens, rest-start, Turned, stands, turn, rest-end}
+use Rattle.expr.specs.Shown.{shownToken, readSize, isWhole, tokensOf, sizeOf}
+use Rattle.expr.proofs.Reading.{shown-constant, shown-symbol, shown-operator, read-size}
+use Rattle.expr.proofs.Rests.{Rest, tokens, rest-start, Turned, turn, rest-end}
 use Rattle.file.specs.File.{inputRoom}
 use Rattle.write.specs.Splice.{Wrote}
-use Rattle.write.specs.SpliceLaws.{wrote-as, Ahead, ahead-start, ahead-step, ahead-end, ahead-room}
-use Rattle.unwind.specs.declared.tokens.Span.{Span}
+use Rattle.write.specs.SpliceLaws.{Ahead, ahead-start, ahead-step, ahead-end, ahead-room}
 use Rattle.unwind.specs.Size.{exprSize}
 use Rattle.unwind.specs.SizeLaws.{size-rename}
-use Rattle.unwind.specs.Shown.{currentOf, known, renamedBytes, spanOf}
+use Rattle.unwind.specs.Shown.{currentOf, known, renamedBytes}
 
 -- where a list has an element, it does not matter what stands for a missing one
 getD-inside : (xs : List ℕ) (i : ℕ) → i < length xs → (d e : ℕ) → getD xs i d ≡ getD xs i e
@@ -35,78 +34,46 @@ current-at names s h = getD-inside names s h 0 s
 
 -- ---- the token at a place
 
--- it has n bytes in the table, and is these bytes in the trace
-pub record Is (f : ℕ → ℕ) (e : List ℕ) (i n : ℕ) (bs : List ℕ) : Type 0 where
-  pub size : n ≡ sizeOf Table (readToken Table (drop i e))
-  pub bytes : renamedBytes f (readToken Table (drop i e)) ≡ bs
+-- its bytes in the trace, by what is read of it
+module _ (f : ℕ → ℕ) (o : Option Token) {t : Read} (q : t ≡ shownToken o) where
+  pub constant-bytes : {w : ℕ} → t ≡ R.Constant w → renamedBytes f o ≡ tokenBytes Trace (Const w)
+  constant-bytes {w} p = ap (renamedBytes f) (shown-constant o w (sym q ∙ p))
 
-module _ {f : ℕ → ℕ} {e : List ℕ} {i n : ℕ} {bs : List ℕ} (k : Is f e i n bs) where
-  pub token-room : (at m : ℕ) → at + length (renamedBytes f (readToken Table (drop i e))) ≤ m → at + length bs ≤ m
-  token-room at m h = omega (arith, ap length (k .bytes))
+  pub symbol-bytes : {s : ℕ} → t ≡ R.Symbol s → renamedBytes f o ≡ tokenBytes Trace (Symbol (f s))
+  symbol-bytes {s} p = ap (renamedBytes f) (shown-symbol o s (sym q ∙ p))
 
-  pub token-wrote : {o p : List ℕ} {at to : ℕ} → Wrote o at bs p to → (n ≡ sizeOf Table (readToken Table (drop i e)))
-      × Wrote o at (renamedBytes f (readToken Table (drop i e))) p to
-  token-wrote w = (k .size, wrote-as (sym (k .bytes)) w)
+  pub operator-bytes : {b : ℕ} → t ≡ R.Operator b → renamedBytes f o ≡ b ∷ []
+  operator-bytes {b} p =
+      let k = shown-operator o b (sym q ∙ p) in
+      ap (renamedBytes f) (k .is) ∙ go (k .token) (k .operates) ∙ ap {B = List ℕ} (λ b. b ∷ []) (sym (k .coded))
+    where
+      go : (t : Token) → IsOperator t → tokenBytes Trace (renameToken f t) ≡ code Table t ∷ []
+      go (Const n) o = absurd o
+      go (Symbol s) o = absurd o
+      go (Un o) k = refl
+      go (Bin o) k = refl
+      go Ite k = refl
 
-operator-bytes : (f : ℕ → ℕ) (t : Token) → IsOperator t → tokenBytes Trace (renameToken f t) ≡ code Table t ∷ []
-operator-bytes f (Const n) o = absurd o
-operator-bytes f (Symbol s) o = absurd o
-operator-bytes f (Un o) k = refl
-operator-bytes f (Bin o) k = refl
-operator-bytes f Ite k = refl
+-- there is room for it
+pub token-room : {bs cs : List ℕ} → bs ≡ cs → (at m : ℕ) → at + length bs ≤ m → at + length cs ≤ m
+token-room q at m h = omega (arith, ap length q)
 
-module _ (S : ℕ) (e : List ℕ) (i : ℕ) (h : i < length e) (st : Stands Table S e i) where
-  pub constant : getD e i 0 ≡ 1 → Constant Table (st .0) e i
-  constant c = constant-stands Table (below S) (st .0) e i h (st .1) c
+-- in a trace, as many as the file's kind says, and at most twice as many as in the table
+renamed-size : (f : ℕ → ℕ) (o : Option Token) → length (renamedBytes f o) ≡ sizeOf Trace o
+renamed-size f none = refl
+renamed-size f (some (Const n)) = refl
+renamed-size f (some (Symbol s)) = refl
+renamed-size f (some (Un u)) = refl
+renamed-size f (some (Bin u)) = refl
+renamed-size f (some Ite) = refl
 
-  pub symbol : getD e i 0 ≡ 2 → Reads Table (below S) (st .0) e i
-  symbol c = symbol-stands Table (below S) (st .0) e i h (st .1) c
-
-  module _ (f : ℕ → ℕ) where
-    pub constant-is : getD e i 0 ≡ 1 → (w : ℕ) → w ≡ numberOf 4 (drop (i + 1) e) → Is f e i 5 (tokenBytes Trace (Const w))
-    constant-is c w q = record {
-      size = sym (ap (sizeOf Table) (constant c .is));
-      bytes = ap (renamedBytes f) (constant c .is) ∙ ap (λ n. tokenBytes Trace (Const n)) (sym q);
-    }
-
-    pub symbol-is : getD e i 0 ≡ 2 → (s : ℕ) → s ≡ f (numberOf 1 (drop (i + 1) e)) → Is f e i 2 (tokenBytes Trace (Symbol s))
-    symbol-is c s q = record {
-      size = sym (ap (sizeOf Table) (symbol c .is));
-      bytes = ap (renamedBytes f) (symbol c .is) ∙ ap (λ n. tokenBytes Trace (Symbol n)) (sym q);
-    }
-
-    pub operator-token : (getD e i 0 ≡ 1 → ⊥) → (getD e i 0 ≡ 2 → ⊥) → Is f e i 1 (getD e i 0 ∷ [])
-    operator-token a b =
-        let k = operator-stands Table (below S) (st .0) e i h (st .1) a b in
-        record {
-          size = k .one-byte;
-          bytes =
-              ap (renamedBytes f) (k .is ∙ k .named) ∙ operator-bytes f (k .token) (k .coded .1)
-              ∙ ap {B = List ℕ} (λ b. b ∷ []) (sym (k .coded .0));
-        }
-
-    -- its bytes in the table and in the trace
-    pub record Spans (s : Span) : Type 0 where
-      pub here : s .here ≡ sizeOf Table (readToken Table (drop i e))
-      pub there : s .there ≡ length (renamedBytes f (readToken Table (drop i e)))
-      pub little : s .there ≤ 2 * s .here
-
-    pub span-is : Spans (spanOf (getD e i 0))
-    span-is = go (eqb (getD e i 0) 1) refl (eqb (getD e i 0) 2) refl
-      where
-        spans : (n : ℕ) (bs : List ℕ) → Is f e i n bs → (s : Span) → s .here ≡ n → s .there ≡ length bs → s .there ≤ 2 * s .here → Spans s
-        spans n bs k s a b c = record { here = a ∙ k .size; there = b ∙ sym (ap length (k .bytes)); little = c }
-
-        go : (x : Bool) → eqb (getD e i 0) 1 ≡ x → (y : Bool) → eqb (getD e i 0) 2 ≡ y
-            → Spans (cond x (record { here = 5; there = 5 }) (cond y (record { here = 2; there = 3 }) (record { here = 1; there = 1 })))
-        go true a y b =
-            spans 5 (tokenBytes Trace (Const (numberOf 4 (drop (i + 1) e)))) (constant-is (eqb-true (getD e i 0) 1 a) _ refl) _ refl refl
-            (omega arith)
-        go false a true b =
-            spans 2 (tokenBytes Trace (Symbol (f (numberOf 1 (drop (i + 1) e))))) (symbol-is (eqb-true (getD e i 0) 2 b) _ refl) _ refl
-            refl (omega arith)
-        go false a false b =
-            spans 1 (getD e i 0 ∷ []) (operator-token (eqb-false (getD e i 0) 1 a) (eqb-false (getD e i 0) 2 b)) _ refl refl (omega arith)
+little-size : (o : Option Token) → sizeOf Trace o ≤ 2 * sizeOf Table o
+little-size none = omega arith
+little-size (some (Const n)) = omega arith
+little-size (some (Symbol s)) = omega arith
+little-size (some (Un u)) = omega arith
+little-size (some (Bin u)) = omega arith
+little-size (some Ite) = omega arith
 
 -- ---- the rest of an expression, in the trace
 
@@ -184,18 +151,19 @@ module _ {e : List ℕ} {i size : ℕ} (v : Measuring e i size) where
     pub some-byte : 1 ≤ here
     pub then : Measuring e (i + here) (size + there)
 
-  pub measure-on : i < length e → (s : Span) → s ≡ spanOf (getD e i 0) → MeasureOn (s .here) (s .there)
-  measure-on h s q =
-      let k : Spans inputRoom e i h (stands (v .rest) h) (λ x. x) s = subst (Spans inputRoom e i h (stands (v .rest) h) (λ x. x)) (sym q)
-      (span-is inputRoom e i h (stands (v .rest) h) (λ x. x)) in
-      let t = turn (v .rest) h (s .here) (k .here) in
+  pub measure-on : i < length e → {t : Read} → t ≡ shownToken (readToken Table (drop i e))
+      → MeasureOn (readSize Table t) (readSize Trace t)
+  measure-on h q =
+      let o = readToken Table (drop i e) in
+      let here = read-size Table o q in
+      let there = read-size Trace o q in
+      let k = turn (v .rest) h _ here in
       record {
-        some-byte = t .some-byte;
+        some-byte = k .some-byte;
         then = record {
-          rest = t .then;
-          little = omega (arith, v .little, k .little);
-          sum =
-              omega (arith, v .sum, k .there, turned-size t (λ x. x));
+          rest = k .then;
+          little = omega (arith, v .little, here, there, little-size o);
+          sum = omega (arith, v .sum, there, renamed-size (λ x. x) o, turned-size k (λ x. x));
         };
       }
 

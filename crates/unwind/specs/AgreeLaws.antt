@@ -7,18 +7,19 @@
 use Prim.Native.Nat.{ℕ}
 use native.Mathlib.Omega.{arith}
 use mathlib.Core.Path.{_≡_, refl, ap, _∙_}
-use mathlib.Core.List.{List}
+use mathlib.Core.List.{List, [], _∷_}
 use lib.ListN.{length}
 use Rattle.expr.specs.Lists.{All}
-use Rattle.expr.specs.Eval.{Env, envOf, update, value}
-use Rattle.expr.specs.EvalLaws.{update-same, update-other}
+use Rattle.expr.specs.Token.{Const}
+use Rattle.expr.specs.Eval.{Env, envOf, update}
+use Rattle.expr.specs.EvalLaws.{value-top, update-same, update-other}
 use Rattle.file.specs.Outcome.{Kind, Assume, Assert, Bound, Outcome, Ended, Failed, Lost, verdict, placeOf}
 use Rattle.table.specs.Table.{Instr}
 use Rattle.table.specs.TableLaws.{InstrOk}
 use Rattle.table.specs.Run.{run}
 use Rattle.trace.specs.Judge.{judge}
 use Rattle.unwind.specs.Places.{endOf, places}
-use Rattle.unwind.specs.Unwind.{atFirst, unwind}
+use Rattle.unwind.specs.Unwind.{statements, atFirst, unwind}
 use Rattle.unwind.specs.UnwindLaws.{places-ok}
 use Rattle.unwind.specs.Gated.{shownAs}
 use Rattle.unwind.specs.GatedLaws.{Mirrors, judge-gated, gated-runs}
@@ -37,9 +38,10 @@ first-mirrors S ρ = record {
 -- as the trace shows it, with the reason and the place
 pub judge-unwind : (cut : Kind) (S : ℕ) (is : List Instr) (K : ℕ) (words : List ℕ) → All (InstrOk S (length is)) is
     → judge (unwind cut S is K) (envOf words) ≡ shownAs cut ((run is K words) .outcome)
-unfolding unwind judge value
+unfolding unwind judge
 judge-unwind cut S is K words o =
-    judge-gated cut S (endOf (length is) K) (places is K) (places-ok S is K o) (atFirst S) (update (envOf words) S 0) (envOf words) 0
+    ap (λ v. judge (statements cut (atFirst S) (places is K)) (update (envOf words) S v)) (value-top (envOf words) (Const 0 ∷ []) refl)
+    ∙ judge-gated cut S (endOf (length is) K) (places is K) (places-ok S is K o) (atFirst S) (update (envOf words) S 0) (envOf words) 0
     (first-mirrors S (envOf words))
     ∙ ap (shownAs cut) (gated-runs S is K words o)
 

@@ -12,11 +12,12 @@ use lib.Seq.{drop-drop}
 use lib.Dec.{eqb, leb}
 use borrow.Author.Tests.{leb-false, le-leb, lt-leb, ltb-true, lt-ltb, le-ltb}
 use Rattle.expr.specs.Lists.{All, all-drop, drop-next}
-use Rattle.expr.specs.Word.{Zero, truthy, test, unary, binary}
+use Rattle.expr.specs.Word.{Zero, Ule, truthy, test, binary}
 use Rattle.expr.specs.Token.{Token, Const, Symbol, Un, Ite}
 use Rattle.expr.specs.Expr.{below}
-use Rattle.expr.specs.Eval.{Env, envOf, update, eval, top, value, rename}
-use Rattle.expr.specs.EvalLaws.{update-same, update-other, update-self, eval-append, eval-push, push-rename}
+use Rattle.expr.specs.Eval.{Env, envOf, update, eval, value, rename}
+use Rattle.expr.specs.OperatorLaws.{zero-tests, ule-tests}
+use Rattle.expr.specs.EvalLaws.{value-top, update-same, update-other, update-self, eval-append, eval-push, push-rename}
 use Rattle.file.specs.Outcome.{Kind, Outcome, Ended, Failed}
 use Rattle.table.specs.Table.{Instr, Assign, Test, IfThenGoto}
 use Rattle.table.specs.TableLaws.{ExprOk, InstrOk}
@@ -36,15 +37,15 @@ truthy-test false = refl
 -- where the body pushes the word a and the old token the word b
 guarded-value : (σ : Env) (W j : ℕ) (body : List Token) (old : Token) (a b : ℕ) → ((st : List ℕ) → eval σ body st ≡ a ∷ st)
     → ((st : List ℕ) → eval σ (old ∷ []) st ≡ b ∷ st) → value σ (guarded W j body old) ≡ gate (σ W) j a b
-unfolding value binary
 guarded-value σ W j body old a b pa pb =
-    ap top (eval-append σ body (old ∷ Ite ∷ []) (active ∷ []))
-    ∙ ap (λ st. top (eval σ (old ∷ Ite ∷ []) st)) (pa (active ∷ []))
-    ∙ ap (λ st. top (eval σ (Ite ∷ []) st)) (pb (a ∷ active ∷ []))
-    ∙ ap (λ t. cond t a b) (truthy-test (leb (σ W) j))
+    value-top σ (guarded W j body old)
+    (eval-append σ body (old ∷ Ite ∷ []) (active ∷ [])
+    ∙ ap (eval σ (old ∷ Ite ∷ [])) (pa (active ∷ []))
+    ∙ ap (eval σ (Ite ∷ [])) (pb (a ∷ active ∷ [])))
+    ∙ ap (λ t. cond t a b) (ap truthy (ule-tests 32 (σ W) j) ∙ truthy-test (leb (σ W) j))
   where
     active : ℕ
-    active = test (leb (σ W) j)
+    active = binary 32 Ule (σ W) j
 
 -- the newest symbols hold, in the trace's environment σ, what the program's environment ρ and control w say; and a new symbol is none of
 -- them
@@ -179,8 +180,9 @@ copies-idle is K (suc c) r w ρ h =
 
 -- the bound's test
 bound-value : (S : ℕ) (ρ : Env) (e : List Token) → ExprOk S e → value ρ (e ++ Un Zero ∷ []) ≡ test (eqb (value ρ e) 0)
-unfolding value unary
-bound-value S ρ e o = ap top (eval-append ρ e (Un Zero ∷ []) [] ∙ ap (eval ρ (Un Zero ∷ [])) (eval-push (below S) 16 ρ e [] (o .0)))
+bound-value S ρ e o =
+    value-top ρ (e ++ Un Zero ∷ []) (eval-append ρ e (Un Zero ∷ []) [] ∙ ap (eval ρ (Un Zero ∷ [])) (eval-push (below S) 16 ρ e [] (o .0)))
+    ∙ zero-tests 32 (value ρ e)
 
 -- the places from instruction i of copy r on, where xs are the instructions left in it and c copies follow
 abbrev onFrom : List Instr → (K c r i : ℕ) → List Instr → List Place

@@ -1,11 +1,10 @@
 -- What the code's values mean: its answers as functions of the definitions.
 use Prim.Native.Nat.{ℕ}
 use mathlib.Core.Path.{_≡_}
-use mathlib.Core.Bool.{Bool, cond}
+use mathlib.Core.Bool.{Bool}
 use mathlib.Core.Option.{Option, none, some}
 use mathlib.Core.List.{List, []}
 use lib.ListN.{getD}
-use lib.Dec.{eqb}
 use Rattle.expr.specs.declared.File.the-variants.{Trace}
 use Rattle.expr.specs.Token.{Token, tokenBytes}
 use Rattle.expr.specs.Expr.{below}
@@ -21,7 +20,6 @@ use Rattle.unwind.specs.Unwind.{Newest, statements}
 use Rattle.unwind.specs.UnwindLaws.{after}
 use Rattle.unwind.specs.Size.{instrSize}
 use Rattle.unwind.specs.declared.copy.Front.{Front}
-use Rattle.unwind.specs.declared.tokens.Span.{Span}
 
 -- ---- the newest symbols
 
@@ -42,11 +40,6 @@ known = below inputRoom
 abbrev pub renamedBytes : (ℕ → ℕ) → Option Token → List ℕ
 renamedBytes f none = []
 renamedBytes f (some t) = tokenBytes Trace (renameToken f t)
-
--- the bytes of a token in the table and in the trace, by its code
-abbrev pub spanOf : (code : ℕ) → Span
-spanOf code =
-    cond (eqb code 1) (record { here = 5; there = 5 }) (cond (eqb code 2) (record { here = 2; there = 3 }) (record { here = 1; there = 1 }))
 
 -- ---- places
 

@@ -12,11 +12,11 @@ use lib.Dec.{eqb, leb, ltb}
 use borrow.Author.Tests.{eq-eqb, lt-ltb, ltb-true}
 use Rattle.expr.specs.declared.File.the-variants.{Table, Trace}
 use Rattle.expr.specs.Lists.{All, or-left, or-right, all-append}
-use Rattle.expr.specs.Word.{Zero}
+use Rattle.expr.specs.Word.{Zero, Ule}
 use Rattle.expr.specs.Token.{Token, Const, Symbol, Un, Bin, Ite}
 use Rattle.expr.specs.TokenLaws.{Holds}
 use Rattle.expr.specs.Expr.{below, pops, fits}
-use Rattle.expr.specs.ExprLaws.{fits-is, Ok, ok-append, ok-rename}
+use Rattle.expr.specs.ExprLaws.{fits-is, fits-const, fits-symbol, fits-operator, Ok, ok-append, ok-rename}
 use Rattle.expr.specs.Eval.{renameToken, rename}
 use Rattle.file.specs.Outcome.{Kind, Assume, Assert, Bound}
 use Rattle.file.specs.File.{inputRoom, Accepted}
@@ -84,9 +84,10 @@ place-lt n K r i h k = omega (arith, mul-le-mul-right (suc n) h)
 
 module _ (S n K : ℕ) where
   zero-ok : (e : List Token) → TableExprOk S e → TableExprOk S (e ++ Un Zero ∷ [])
-  unfolding fits
-  zero-ok e o =
-      (ok-append (below S) 16 0 1 1 e (Un Zero ∷ []) (o .0) (refl, refl), all-append (Holds Table) e (Un Zero ∷ []) (o .1) (tt, tt))
+  zero-ok e o = (
+    ok-append (below S) 16 0 1 1 e (Un Zero ∷ []) (o .0) (fits-operator (below S) (Un Zero) tt (omega arith) (omega arith), refl),
+    all-append (Holds Table) e (Un Zero ∷ []) (o .1) (tt, tt),
+  )
 
   jump-ok : (r i t : ℕ) (e : List Token) → r ≤ K → t ≤ n → TableExprOk S e → ActionOk S (endOf n K) (jumpIn n K r i t e)
   jump-ok r i t e h k o = go (leb t i) (ltb r K) refl
@@ -138,16 +139,15 @@ rename-holds may f h limit d z (t ∷ e) o a = (token t (o .0) (a .0), rename-ho
 -- the body and the old word stand above the guard's word
 guarded-ok : (may : ℕ → Bool) (W j : ℕ) (body : List Token) (old : Token) → may W ≡ true → W < 65536 → j < 65536
     → Ok may 17 1 2 body → All (Holds Trace) body → Ok may 17 2 3 (old ∷ []) → Holds Trace old → ExprOk may (guarded W j body old)
-unfolding fits
 guarded-ok may W j body old known small place ok holds old-ok old-holds = (
   (
-    known,
+    fits-symbol may W (omega arith) known,
     (
-      refl,
+      fits-const may j (omega arith),
       (
-        refl,
+        fits-operator may (Bin Ule) tt (omega arith) (omega arith),
         ok-append may 17 1 2 1 body (old ∷ Ite ∷ []) ok
-            (ok-append may 17 2 3 1 (old ∷ []) (Ite ∷ []) old-ok (refl, refl)),
+            (ok-append may 17 2 3 1 (old ∷ []) (Ite ∷ []) old-ok (fits-operator may Ite tt (omega arith) (omega arith), refl)),
       ),
     ),
   ),
@@ -224,44 +224,44 @@ module _ (cut : Kind) (told : Told cut) (S limit : ℕ) (few : S + 4096 ≤ 6553
 
     set-ok : (j s : ℕ) (e : List Token) → j < limit → s < S → TableExprOk S e
         → ExprOk (σ .readable) (guarded (c .control) j (rename (c .current) e) (Symbol (c .current s)))
-    unfolding fits
     set-ok j s e l h o =
         let b = body-ok e o in
         let q : below S s ≡ true = lt-ltb s S h in
         guarded-ok (σ .readable) (c .control) j (rename (c .current) e) (Symbol (c .current s)) (k .control-read) control-small
         (omega arith) (b .0) (b .1)
-        (k .current-read s q, refl) (omega (arith, k .current-old s q))
+        (fits-symbol (σ .readable) (c .current s) (omega arith) (k .current-read s q), refl) (omega (arith, k .current-old s q))
 
     check-ok : (j : ℕ) (e : List Token) → j < limit → TableExprOk S e
         → ExprOk (σ .readable) (guarded (c .control) j (rename (c .current) e) (Const 1))
-    unfolding fits
     check-ok j e l o =
         let b = body-ok e o in
         guarded-ok (σ .readable) (c .control) j (rename (c .current) e) (Const 1) (k .control-read) control-small (omega arith) (b .0)
-        (b .1) (refl, refl) (omega arith)
+        (b .1) (fits-const (σ .readable) 1 (omega arith), refl) (omega arith)
 
     jump-body-ok : (g : ℕ) (e : List Token) → g ≤ limit → TableExprOk S e
         → Ok (σ .readable) 17 1 2 (rename (c .current) e ++ Const g ∷ Symbol (c .control) ∷ Ite ∷ [])
         × All (Holds Trace) (rename (c .current) e ++ Const g ∷ Symbol (c .control) ∷ Ite ∷ [])
-    unfolding fits
     jump-body-ok g e l o =
         let b = body-ok e o in (
-          ok-append (σ .readable) 17 1 2 2 (rename (c .current) e) (Const g ∷ Symbol (c .control) ∷ Ite ∷ []) (b .0)
-              (refl, (k .control-read, (refl, refl))),
+          ok-append (σ .readable) 17 1 2 2 (rename (c .current) e) (Const g ∷ Symbol (c .control) ∷ Ite ∷ []) (b .0) (
+            fits-const (σ .readable) g (omega arith),
+            (
+              fits-symbol (σ .readable) (c .control) (omega arith) (k .control-read),
+              (fits-operator (σ .readable) Ite tt (omega arith) (omega arith), refl),
+            ),
+          ),
           all-append (Holds Trace) (rename (c .current) e) (Const g ∷ Symbol (c .control) ∷ Ite ∷ []) (b .1)
               ((omega arith), (control-small, (tt, tt))),
         )
 
     moves-ok : (j : ℕ) (body : List Token) → j < limit → Ok (σ .readable) 17 1 2 body → All (Holds Trace) body
         → ExprOk (σ .readable) (guarded (c .control) j body (Symbol (c .control)))
-    unfolding fits
     moves-ok j body l o h =
         guarded-ok (σ .readable) (c .control) j body (Symbol (c .control)) (k .control-read) control-small (omega arith) o h
-        (k .control-read, refl) control-small
+        (fits-symbol (σ .readable) (c .control) (omega arith) (k .control-read), refl) control-small
 
     exit-body-ok : (g : ℕ) → g ≤ limit → Ok (σ .readable) 17 1 2 (Const g ∷ []) × All (Holds Trace) (Const g ∷ [])
-    unfolding fits
-    exit-body-ok g l = ((refl, refl), ((omega arith), tt))
+    exit-body-ok g l = ((fits-const (σ .readable) g (omega arith), refl), ((omega arith), tt))
 
   pub statements-ok : (ps : List Place) (c : Newest) (σ : Seen) → All (PlaceOk S limit) ps → Known S c σ → c .next + length ps ≤ S + 4096
       → StmtsOk S σ (statements cut c ps)
@@ -293,12 +293,13 @@ module _ (cut : Kind) (told : Told cut) (S limit : ℕ) (few : S + 4096 ≤ 6553
 pub unwind-well-formed : (cut : Kind) → Told cut → (S : ℕ) (is : List Instr) (K : ℕ) → All (InstrOk S (length is)) is → S ≤ inputRoom
     → length (unwind cut S is K) ≤ 4096
     → StmtsOk S (seenFirst S) (unwind cut S is K)
-unfolding unwind fits
+unfolding unwind
 unwind-well-formed cut told S is K o few count =
     let l : length (unwind cut S is K) ≡ 1 + endOf (length is) K = unwind-count cut S is K in
     let m : endOf (length is) K < 65536 = omega arith in (
-      ((omega arith), (omega arith), (omega arith), ((refl, refl), ((omega arith), tt))),
-      statements-ok cut told S (endOf (length is) K) (omega (arith, symbols-in-two-bytes)) m (places is K) (atFirst S) (see (seenFirst S) (opening S)) (places-ok S is K o)
+      ((omega arith), (omega arith), (omega arith), ((fits-const (below S) 0 (omega arith), refl), ((omega arith), tt))),
+      statements-ok cut told S (endOf (length is) K) (omega (arith, symbols-in-two-bytes)) m (places is K) (atFirst S)
+          (see (seenFirst S) (opening S)) (places-ok S is K o)
           (known-first S)
           (omega (arith, places-count is K)),
     )

@@ -1,5 +1,7 @@
 // A table's expression as a trace's: the same tokens, with the current symbols.
-use expr::number;
+use expr::File;
+use expr::token;
+use expr::token::Read;
 ghost use mathlib.Core.Path.{_≡_};
 ghost use mathlib.Core.Bool.{true};
 ghost use Prim.Native.Nat.{_+_, _*_, _≤_, _<_};
@@ -11,7 +13,7 @@ ghost use Rattle.expr.specs.Eval.{rename};
 ghost use Rattle.expr.specs.Shown.{isWhole, tokensOf, sizeOf, Stands};
 ghost use Rattle.write.specs.Splice.{Wrote};
 ghost use Rattle.unwind.specs.Size.{exprSize};
-ghost use Rattle.unwind.specs.Shown.{currentOf, known, renamedBytes, spanOf};
+ghost use Rattle.unwind.specs.Shown.{currentOf, known, renamedBytes};
 
 // After a token: its bytes in the table, and the next place of the buffer.
 struct Put {
@@ -26,25 +28,22 @@ fn put_token(e: &[u8], i: usize, names: &[u16], out: &mut [u8], at: usize) -> Pu
     ensures { λ r. ⌜ (r .size ≡ sizeOf Table (readToken Table (drop i (now (e .entry))))) × Wrote (now (out .entry)) at
         (renamedBytes (currentOf (now (names .entry))) (readToken Table (drop i (now (e .entry))))) (now (out .exit)) (r .to) ⌝ }
 {
-    let code = e[i];
-    if code == 0x01 {
-        let w = number::word_at(e, i + 1);
-        return Put {
-            size: 5,
+    let t = token::token_here(e, i, File::Table);
+    let size = token::size_of(t, File::Table);
+    match t {
+        Read::Constant(w) => Put {
+            size: size,
             to: write::put_constant(w, out, at),
-        };
-    }
-    if code == 0x02 {
-        let symbol = number::byte_at(e, i + 1);
-        let current = names[symbol] as usize;
-        return Put {
-            size: 2,
-            to: write::put_symbol(current, out, at),
-        };
-    }
-    Put {
-        size: 1,
-        to: write::put_byte(code, out, at),
+        },
+        Read::Symbol(s) => Put {
+            size: size,
+            to: write::put_symbol(names[s] as usize, out, at),
+        },
+        Read::Operator(code) => Put {
+            size: size,
+            to: write::put_byte(code, out, at),
+        },
+        Read::Nothing => Put { size: size, to: at },
     }
 }
 
@@ -66,24 +65,6 @@ pub fn put_tokens(e: &[u8], names: &[u16], out: &mut [u8], at: usize) -> usize
     to
 }
 
-// A token's bytes in the table and in the trace, by its code.
-struct Span {
-    pub here: usize,
-    pub there: usize,
-}
-
-fn span_of(code: u8) -> Span
-    ensures { λ r. ⌜ r ≡ spanOf code ⌝ }
-{
-    if code == 0x01 {
-        return Span { here: 5, there: 5 };
-    }
-    if code == 0x02 {
-        return Span { here: 2, there: 3 };
-    }
-    Span { here: 1, there: 1 }
-}
-
 // The bytes that an expression has in a trace.
 pub fn expr_size(e: &[u8]) -> usize
     requires { ⌜ (isWhole (parse Table known (now e)) ≡ true) × (length (now e) < 65536) ⌝ }
@@ -92,9 +73,9 @@ pub fn expr_size(e: &[u8]) -> usize
     let mut i: usize = 0;
     let mut size: usize = 0;
     while i < e.len() {
-        let s = span_of(e[i]);
-        size += s.there;
-        i += s.here;
+        let t = token::token_here(e, i, File::Table);
+        size += token::size_of(t, File::Trace);
+        i += token::size_of(t, File::Table);
     }
     size
 }

@@ -4,6 +4,10 @@ use Rattle.unwind.proofs.tokens.expr_size.Tie as tie
 use native.Mathlib.Omega.{arith}
 use Prim.Native.Nat.{_-_}
 use lib.ListN.{length}
+use Rattle.expr.specs.declared.File.the-variants.{Table, Trace}
+use Rattle.expr.specs.Shown.{readSize}
+use Rattle.expr.proofs.Steps.{stands-size}
+use Rattle.expr.proofs.Rests.{stands}
 use Rattle.unwind.proofs.Exprs.{Measuring, MeasureOn, measuring-start, measure-on, measured}
 use borrow.Author.Needs.{needs}
 
@@ -16,29 +20,35 @@ abbrev μ-loop : tie.MeasureT-loop
 loop-holds : tie.Need-loop-holds Inv-loop μ-loop
 loop-holds c = measuring-start _ (c .before .pre .0)
 
-on : (c : tie.After-struct-known Inv-loop μ-loop) → MeasureOn (c .before .before .before .before .loop .inv)
-    (c .before .span-of .result .here) (c .before .span-of .result .there)
-on c =
-    measure-on (c .before .before .before .before .loop .inv) (c .before .before .before .loop-test .taken) (c .before .span-of .result)
-    (c .before .span-of .ensures)
+token-here-requires : tie.Need-token-here-requires Inv-loop μ-loop
+token-here-requires c κs = let v = c .before .loop .inv in let h = c .loop-test .taken in
+    (h, stands-size Table 64 (c .before .before .before .args .e .now) (c .before .loop .i) (stands (v .rest) h))
 
-shared-slice-read-span-of : tie.Need-shared-slice-read-span-of Inv-loop μ-loop
-shared-slice-read-span-of c = c .before .loop-test .taken
+on : (c : tie.After-token-here Inv-loop μ-loop) → MeasureOn (c .before .before .loop .inv)
+    (readSize Table (c .token-here .result)) (readSize Trace (c .token-here .result))
+on c = measure-on (c .before .before .loop .inv) (c .before .loop-test .taken) (c .token-here .ensures)
 
-span-of-requires : tie.Need-span-of-requires Inv-loop μ-loop
-span-of-requires c κs = search needs
+size-of-requires : tie.Need-size-of-requires Inv-loop μ-loop
+size-of-requires c κs = search needs
 
 add-size : tie.Need-add-size Inv-loop μ-loop
-add-size c = omega (arith, on c .then .little, on c .then .rest .inside, c .before .before .before .before .before .before .pre .1)
+add-size c =
+    let k = on (c .before) .then in
+    omega (arith, c .size-of .ensures, k .little, k .rest .inside, c .before .before .before .before .before .pre .1)
+
+size-of-requires-2 : tie.Need-size-of-requires-2 Inv-loop μ-loop
+size-of-requires-2 c κs = search needs
 
 add-i : tie.Need-add-i Inv-loop μ-loop
-add-i c = omega (arith, on (c .before) .then .rest .inside, c .before .before .before .before .before .before .before .pre .1)
+add-i c =
+    let k = on (c .before .before) .then in
+    omega (arith, c .size-of2 .ensures, k .rest .inside, c .before .before .before .before .before .before .pre .1)
 
 loop-less : tie.Need-loop-less Inv-loop μ-loop
-loop-less c = omega (arith, on (c .before) .then .rest .inside, on (c .before) .some-byte)
+loop-less c = let k = on (c .before .before) in omega (arith, c .size-of2 .ensures, k .then .rest .inside, k .some-byte)
 
 loop-again : tie.Need-loop-again Inv-loop μ-loop
-loop-again c = on (c .before) .then
+loop-again c = rw (c .size-of2 .ensures, c .before .size-of .ensures) (on (c .before .before) .then)
 
 returns : tie.Need-returns Inv-loop μ-loop
 returns c = let v = c .before .loop .inv in (measured v (c .loop-test .left), omega (arith, v .little, v .rest .inside))
@@ -50,9 +60,10 @@ expr-size-spec =
     Inv-loop
     μ-loop
     loop-holds
-    shared-slice-read-span-of
-    span-of-requires
+    token-here-requires
+    size-of-requires
     add-size
+    size-of-requires-2
     add-i
     loop-less
     loop-again

@@ -1,126 +1,152 @@
-use Prim.Native.Nat.{_<_}
+-- What is read of the token says its bytes in the trace.
+use Prim.Native.Nat.{ℕ, _+_, _≤_, _<_}
 use borrow.Author.Needs.{needs}
 use Rattle.unwind.proofs.tokens.put_token.Statement.{statement}
 use Rattle.unwind.proofs.tokens.put_token.Tie as tie
 use native.Mathlib.Omega.{arith}
-use mathlib.Core.Path.{_≡_, sym, ap, _∙_, subst}
-use mathlib.Core.Bool.{true}
-use lib.ListN.{length, getD}
-use Rattle.unwind.specs.Shown.{currentOf}
-use mathlib.Core.List.{[], _∷_}
+use mathlib.Core.Path.{_≡_, sym, ap, _∙_}
+use mathlib.Core.Option.{Option}
+use mathlib.Core.List.{List, [], _∷_}
+use lib.ListN.{length, drop, getD}
 use Rattle.expr.specs.declared.File.the-variants.{Table, Trace}
-use Rattle.expr.specs.Token.{Const, Symbol, tokenBytes}
-use Rattle.expr.specs.Expr.{below}
-use lib.Dec.{ltb}
-use borrow.Author.Tests.{ltb-true}
-use Rattle.expr.proofs.Steps.{Constant, Reads}
-use Rattle.unwind.proofs.Exprs.{Is, constant, symbol, constant-is, symbol-is, operator-token, current-at, token-room, token-wrote}
+use Rattle.expr.specs.declared.token.Read.{Read}
+use Rattle.expr.specs.declared.token.Read.the-variants as R
+use Rattle.expr.specs.Token.{Token, Const, Symbol, tokenBytes, readToken}
+use Rattle.expr.specs.Shown.{sizeOf}
+use Rattle.expr.proofs.Reading.{read-size}
+use Rattle.expr.proofs.Steps.{stands-size, not-nothing, symbol-below}
+use Rattle.write.specs.SpliceLaws.{wrote-as}
+use Rattle.unwind.specs.Shown.{currentOf, renamedBytes}
+use Rattle.unwind.proofs.Exprs.{current-at, constant-bytes, symbol-bytes, operator-bytes, token-room}
 
-is-constant : (c : tie.Then1) → Constant Table (c .before .before .before .before .before .pre .1 .0)
-    (c .before .before .before .before .before .args .e .now) (c .before .before .before .before .before .args .i)
-is-constant c = let s = c .before .before .before .before .before in constant _ _ _ (s .pre .0) (s .pre .1) (c .if1 .taken)
+token-here-requires : tie.Need-token-here-requires
+token-here-requires c κs = let s = c .before .before .before in
+    (s .pre .0, stands-size Table (length (s .args .names .now)) (s .args .e .now) (s .args .i) (s .pre .1))
 
-is-symbol : (c : tie.Then2) → Reads Table (below (length (c .before .before .before .before .before .before .args .names .now)))
-    (c .before .before .before .before .before .before .pre .1 .0) (c .before .before .before .before .before .before .args .e .now)
-    (c .before .before .before .before .before .before .args .i)
-is-symbol c = let s = c .before .before .before .before .before .before in symbol _ _ _ (s .pre .0) (s .pre .1) (c .if2 .taken)
+size-of-requires : tie.Need-size-of-requires
+size-of-requires c κs = search needs
 
-constant-here : (c : tie.After-word-at) → Is (currentOf (c .before .before .before .before .before .before .args .names .now))
-    (c .before .before .before .before .before .before .args .e .now) (c .before .before .before .before .before .before .args .i) 5
-    (tokenBytes Trace (Const (c .word-at .result)))
-constant-here c = let s = c .before .before .before .before .before .before in constant-is _ _ _ (s .pre .0) (s .pre .1)
-    (currentOf (s .args .names .now)) (c .before .if1 .taken) (c .word-at .result) (c .word-at .ensures)
+-- the token, and its bytes in the trace
+module _ (c : tie.After-size-of) where
+  abbrev start : tie.Start
+  start = c .before .before .before .before .before
 
-inside : (c : tie.After-byte-at) → c .byte-at .result < length (c .before .before .before .before .before .before .before .args .names .now)
-inside c =
-    ltb-true _ _ (subst (λ n. ltb n (length (c .before .before .before .before .before .before .before .args .names .now)) ≡ true)
-    (sym (c .byte-at .ensures .0)) (is-symbol (c .before) .known))
+  abbrev names : List ℕ
+  names = start .args .names .now
 
-symbol-here : (c : tie.After-byte-at) → Is (currentOf (c .before .before .before .before .before .before .before .args .names .now))
-    (c .before .before .before .before .before .before .before .args .e .now)
-    (c .before .before .before .before .before .before .before .args .i) 2
-    (tokenBytes Trace (Symbol (getD (c .before .before .before .before .before .before .before .args .names .now) (c .byte-at .result) 0)))
-symbol-here c = let s = c .before .before .before .before .before .before .before in
-    symbol-is _ _ _ (s .pre .0) (s .pre .1) (currentOf (s .args .names .now)) (c .before .if2 .taken) _
-    (current-at (s .args .names .now) _ (inside c) ∙ ap (currentOf (s .args .names .now)) (c .byte-at .ensures .0))
+  abbrev here : Option Token
+  here = readToken Table (drop (start .args .i) (start .args .e .now))
 
-operator-here : (c : tie.Else2) → Is (currentOf (c .before .before .before .before .before .before .args .names .now))
-    (c .before .before .before .before .before .before .args .e .now) (c .before .before .before .before .before .before .args .i) 1
-    (getD (c .before .before .before .before .before .before .args .e .now) (c .before .before .before .before .before .before .args .i) 0
-    ∷ [])
-operator-here c = let s = c .before .before .before .before .before .before in operator-token _ _ _ (s .pre .0) (s .pre .1)
-    (currentOf (s .args .names .now)) (c .before .if1 .left) (c .if2 .left)
+  abbrev bytes : List ℕ
+  bytes = renamedBytes (currentOf names) here
 
-shared-slice-read-code : tie.Need-shared-slice-read-code
-shared-slice-read-code c = search needs
+  abbrev read : Read
+  read = c .before .token-here .result
 
-add-word-at : tie.Need-add-word-at
-add-word-at c = search needs
+  size-is : c .size-of .result ≡ sizeOf Table here
+  size-is = c .size-of .ensures ∙ read-size Table here (c .before .token-here .ensures)
 
-word-at-requires : tie.Need-word-at-requires
-word-at-requires c κs = omega (arith, is-constant c .there)
+  constant-is : {w : ℕ} → read ≡ R.Constant w → bytes ≡ tokenBytes Trace (Const w)
+  constant-is p = constant-bytes (currentOf names) here (c .before .token-here .ensures) p
+
+  inside : {s : ℕ} → read ≡ R.Symbol s → s < length names
+  inside p = symbol-below Table (length names) (start .args .e .now) (start .args .i) (start .pre .1) (c .before .token-here .ensures) p
+
+  symbol-is : {s : ℕ} → read ≡ R.Symbol s → bytes ≡ tokenBytes Trace (Symbol (getD names s 0))
+  symbol-is {s} p =
+      symbol-bytes (currentOf names) here (c .before .token-here .ensures) p
+      ∙ ap (λ n. tokenBytes Trace (Symbol n)) (sym (current-at names s (inside p)))
+
+  operator-is : {b : ℕ} → read ≡ R.Operator b → bytes ≡ b ∷ []
+  operator-is p = operator-bytes (currentOf names) here (c .before .token-here .ensures) p
+
+  nothing-is : read ≡ R.Nothing → ⊥
+  nothing-is p = not-nothing Table (length names) (start .args .e .now) (start .args .i) (start .pre .1) (c .before .token-here .ensures) p
+
+  room : {bs : List ℕ} → bytes ≡ bs → (start .args .at) + length bs ≤ length (start .args .out .now)
+  room q = token-room q (start .args .at) _ (start .pre .2)
+
+enum-known-t : tie.Need-enum-known-t
+enum-known-t c = search needs
 
 put-constant-requires : tie.Need-put-constant-requires
-put-constant-requires c κs = token-room (constant-here (c .before)) _ _ (c .before .before .before .before .before .before .before .pre .2)
+put-constant-requires c κs = let at = c .before .before .before .before in room at (constant-is at (c .before .before .t .given .1))
+
+enum-known-t-2 : tie.Need-enum-known-t-2
+enum-known-t-2 c = search needs
+
+mul-put-symbol : tie.Need-mul-put-symbol
+mul-put-symbol c = omega (arith, inside (c .before .before .before) (c .before .t2 .given .1))
+
+shared-slice-read-put-symbol : tie.Need-shared-slice-read-put-symbol
+shared-slice-read-put-symbol c = inside (c .before .before .before .before) (c .before .before .t2 .given .1)
+
+cast-put-symbol : tie.Need-cast-put-symbol
+cast-put-symbol c = omega (arith, c .shared-slice-known3 .given (c .before .before .t2 .given .0 .0))
+
+put-symbol-requires : tie.Need-put-symbol-requires
+put-symbol-requires c κs = let at = c .before .before .before .before .before in
+    room at (symbol-is at (c .before .before .before .t2 .given .1))
+
+enum-known-t-3 : tie.Need-enum-known-t-3
+enum-known-t-3 c = search needs
+
+put-byte-requires : tie.Need-put-byte-requires
+put-byte-requires c κs = let at = c .before .before .before .before in room at (operator-is at (c .before .before .t3 .given .1))
+
+enum-told : tie.Need-enum-told
+enum-told c = search needs
 
 same-length : tie.Need-same-length
 same-length c = search needs
 
 returns : tie.Need-returns
-returns c = token-wrote (constant-here (c .before .before .before .before)) (c .before .before .put-constant .ensures)
-
-add-byte-at : tie.Need-add-byte-at
-add-byte-at c = search needs
-
-byte-at-requires : tie.Need-byte-at-requires
-byte-at-requires c κs = omega (arith, is-symbol c .there)
-
-mul-current : tie.Need-mul-current
-mul-current c = search needs
-
-shared-slice-read-current : tie.Need-shared-slice-read-current
-shared-slice-read-current c = inside (c .before)
-
-cast-current : tie.Need-cast-current
-cast-current c = omega (arith, c .shared-slice-known4 .given (c .before .byte-at .result))
-
-put-symbol-requires : tie.Need-put-symbol-requires
-put-symbol-requires c κs =
-    token-room (symbol-here (c .before .before)) _ _ (c .before .before .before .before .before .before .before .before .before .pre .2)
+returns c =
+    let at = c .before .before .before .before .before .before .before in
+    let told = c .before .before .before .before .before .t .given .1 in
+    (size-is at, wrote-as (sym (constant-is at told)) (c .before .before .put-constant .ensures))
 
 same-length-2 : tie.Need-same-length-2
 same-length-2 c = search needs
 
 returns-2 : tie.Need-returns-2
-returns-2 c = token-wrote (symbol-here (c .before .before .before .before .before)) (c .before .before .put-symbol .ensures)
-
-put-byte-requires : tie.Need-put-byte-requires
-put-byte-requires c κs = token-room (operator-here (c .before)) _ _ (c .before .before .before .before .before .before .before .pre .2)
+returns-2 c =
+    let at = c .before .before .before .before .before .before .before .before in
+    let told = c .before .before .before .before .before .before .t2 .given .1 in
+    (size-is at, wrote-as (sym (symbol-is at told)) (c .before .before .put-symbol .ensures))
 
 same-length-3 : tie.Need-same-length-3
 same-length-3 c = search needs
 
 returns-3 : tie.Need-returns-3
-returns-3 c = token-wrote (operator-here (c .before .before .before .before)) (c .before .before .put-byte .ensures)
+returns-3 c =
+    let at = c .before .before .before .before .before .before .before in
+    let told = c .before .before .before .before .before .t3 .given .1 in
+    (size-is at, wrote-as (sym (operator-is at told)) (c .before .before .put-byte .ensures))
+
+returns-4 : tie.Need-returns-4
+returns-4 c = absurd (nothing-is (c .before .before) (c .enum-told .given .1))
 
 pub put-token-spec : {M : Type 1} → statement M
 put-token-spec =
     tie.close
     (tie.spec
-    shared-slice-read-code
-    add-word-at
-    word-at-requires
+    token-here-requires
+    size-of-requires
+    enum-known-t
     put-constant-requires
+    enum-known-t-2
+    mul-put-symbol
+    shared-slice-read-put-symbol
+    cast-put-symbol
+    put-symbol-requires
+    enum-known-t-3
+    put-byte-requires
+    enum-told
     same-length
     returns
-    add-byte-at
-    byte-at-requires
-    mul-current
-    shared-slice-read-current
-    cast-current
-    put-symbol-requires
     same-length-2
     returns-2
-    put-byte-requires
     same-length-3
-    returns-3)
+    returns-3
+    returns-4)
