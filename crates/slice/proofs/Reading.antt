@@ -1,22 +1,22 @@
 -- The symbols that an expression reads: what marking the token at a place leaves, and the loop over the tokens.
 use Prim.Native.Nat.{ℕ, _+_, _≤_, _<_}
-use native.Mathlib.Omega.{arith}
-use mathlib.Core.Path.{_≡_, refl, sym, ap, _∙_, subst}
+use mathlib.Core.Path.{_≡_, refl, sym, ap, _∙_}
 use mathlib.Core.Bool.{Bool, true, false, _||_}
-use mathlib.Core.Option.{some}
+use mathlib.Core.Option.{Option}
 use mathlib.Core.List.{List}
-use lib.ListN.{length, drop, getD, set}
+use lib.ListN.{length, drop, set}
 use lib.Seq.{getD-set-same, getD-set-other}
-use lib.Dec.{eqb, ltb}
-use borrow.Author.Tests.{eqb-true, eqb-false, ltb-true}
+use lib.Dec.{eqb}
+use borrow.Author.Tests.{eqb-true, eqb-false}
 use Rattle.expr.specs.declared.File.the-variants.{Trace}
-use Rattle.expr.specs.Number.{numberOf}
+use Rattle.expr.specs.declared.token.Read.{Read}
+use Rattle.expr.specs.declared.token.Read.the-variants as R
 use Rattle.expr.specs.Token.{Token, Const, Symbol, Un, Bin, Ite, readToken}
 use Rattle.expr.specs.TokenLaws.{IsOperator}
 use Rattle.expr.specs.Expr.{below, parse}
 use Rattle.expr.specs.Eval.{readsToken, reads}
-use Rattle.expr.specs.Shown.{isWhole, tokensOf, sizeOf, Stands}
-use Rattle.expr.proofs.Steps.{Reads, constant-stands, symbol-stands, operator-stands}
+use Rattle.expr.specs.Shown.{shownToken, readSize, isWhole, tokensOf, sizeOf}
+use Rattle.expr.proofs.Reading.{shown-nothing, shown-constant, shown-symbol, shown-operator, read-size}
 use Rattle.expr.proofs.Rests.{Rest, tokens, rest-start, turn, rest-end}
 use Rattle.slice.specs.Shown.{inSet, readsRead}
 
@@ -37,43 +37,36 @@ Marks e i m needed needed′ =
     (m ≡ sizeOf Trace (readToken Trace (drop i e)))
     × ((x : ℕ) → inSet needed′ x ≡ (readsRead x (readToken Trace (drop i e)) || inSet needed x))
 
-operator-reads : (x : ℕ) (t : Token) → IsOperator t → readsToken x t ≡ false
-operator-reads x (Const n) o = absurd o
-operator-reads x (Symbol s) o = absurd o
-operator-reads x (Un o) k = refl
-operator-reads x (Bin o) k = refl
-operator-reads x Ite k = refl
+module _ (e : List ℕ) (i : ℕ) {t : Read} (q : t ≡ shownToken (readToken Trace (drop i e))) {m : ℕ} (n : m ≡ readSize Trace t)
+    (needed : List Bool) where
+  abbrev o : Option Token
+  o = readToken Trace (drop i e)
 
-module _ (e : List ℕ) (i : ℕ) (needed needed′ : List Bool) where
-  marks-by : (t : Token) → readToken Trace (drop i e) ≡ some t → (m : ℕ) → m ≡ sizeOf Trace (some t)
-      → ((x : ℕ) → inSet needed′ x ≡ (readsToken x t || inSet needed x)) → Marks e i m needed needed′
-  marks-by t q m n r = (n ∙ sym (ap (sizeOf Trace) q), λ x. r x ∙ sym (ap (λ o. readsRead x o || inSet needed x) q))
+  pub symbol-marks : {s : ℕ} → t ≡ R.Symbol s → (needed′ : List Bool) → ((x : ℕ) → inSet needed′ x ≡ (eqb x s || inSet needed x))
+      → Marks e i m needed needed′
+  symbol-marks {s} p needed′ r =
+      (n ∙ read-size Trace o q, λ x. r x ∙ sym (ap (λ o. readsRead x o || inSet needed x) (shown-symbol o s (sym q ∙ p))))
 
-module _ (e : List ℕ) (i : ℕ) (needed : List Bool) (h : i < length e) (st : Stands Trace (length needed) e i) where
-  pub constant-marks : getD e i 0 ≡ 1 → Marks e i 5 needed needed
-  constant-marks c =
-      marks-by e i needed needed _ (constant-stands Trace (below (length needed)) (st .0) e i h (st .1) c .is) 5 refl (λ x. refl)
+  -- what is no symbol marks nothing
+  reads-none : ((x : ℕ) → readsRead x o ≡ false) → Marks e i m needed needed
+  reads-none h = (n ∙ read-size Trace o q, λ x. sym (ap (λ b. b || inSet needed x) (h x)))
 
-  module _ (c : getD e i 0 ≡ 3) where
-    symbol : Reads Trace (below (length needed)) (st .0) e i
-    symbol = symbol-stands Trace (below (length needed)) (st .0) e i h (st .1) c
+  pub constant-marks : {w : ℕ} → t ≡ R.Constant w → Marks e i m needed needed
+  constant-marks {w} p = reads-none (λ x. ap (readsRead x) (shown-constant o w (sym q ∙ p)))
 
-    pub symbol-there : i + 1 + 2 ≤ length e
-    symbol-there = omega (arith, symbol .there)
+  pub operator-marks : {b : ℕ} → t ≡ R.Operator b → Marks e i m needed needed
+  operator-marks {b} p = let k = shown-operator o b (sym q ∙ p) in
+      reads-none (λ x. ap (readsRead x) (k .is) ∙ go x (k .token) (k .operates))
+    where
+      go : (x : ℕ) (t : Token) → IsOperator t → readsToken x t ≡ false
+      go x (Const n) o = absurd o
+      go x (Symbol s) o = absurd o
+      go x (Un u) o = refl
+      go x (Bin u) o = refl
+      go x Ite o = refl
 
-    module _ (s : ℕ) (q : s ≡ numberOf 2 (drop (i + 1) e)) where
-      pub symbol-inside : s < length needed
-      symbol-inside = ltb-true s (length needed) (subst (λ n. ltb n (length needed) ≡ true) (sym q) (symbol .known))
-
-      pub symbol-marks : (needed′ : List Bool) → ((x : ℕ) → inSet needed′ x ≡ (eqb x s || inSet needed x)) → Marks e i 3 needed needed′
-      symbol-marks needed′ r = marks-by e i needed needed′ _ (symbol .is) 3 refl (λ x. r x ∙ ap (λ n. eqb x n || inSet needed x) q)
-
-  pub operator-marks : (getD e i 0 ≡ 1 → ⊥) → (getD e i 0 ≡ 3 → ⊥) → Marks e i 1 needed needed
-  operator-marks a b =
-      let k = operator-stands Trace (below (length needed)) (st .0) e i h (st .1) a b in
-      let q : readToken Trace (drop i e) ≡ some (k .token) = k .is ∙ k .named in
-      marks-by e i needed needed (k .token) q 1 (k .one-byte ∙ ap (sizeOf Trace) q)
-      (λ x. sym (ap (λ b. b || inSet needed x) (operator-reads x (k .token) (k .coded .1))))
+  pub nothing-marks : t ≡ R.Nothing → Marks e i m needed needed
+  nothing-marks p = reads-none (λ x. ap (readsRead x) (shown-nothing o (sym q ∙ p)))
 
 -- ---- the loop
 

@@ -1,6 +1,8 @@
 // The symbols that an expression reads.
 use super::sets;
-use expr::number;
+use expr::File;
+use expr::token;
+use expr::token::Read;
 ghost use mathlib.Core.Path.{_≡_};
 ghost use mathlib.Core.Bool.{true, _||_};
 ghost use Prim.Native.Nat.{ℕ, _+_, _<_};
@@ -19,15 +21,17 @@ fn mark_token(e: &[u8], i: usize, needed: &mut [bool]) -> usize
         × ((x : ℕ) → inSet (now (needed .exit)) x ≡ (readsRead x (readToken Trace (drop i (now (e .entry)))) || inSet (now (needed .entry))
         x)) ⌝ }
 {
-    let code = e[i];
-    if code == 0x01 {
-        return 5;
+    let t = token::token_here(e, i, File::Trace);
+    let size = token::size_of(t, File::Trace);
+    match t {
+        Read::Symbol(s) => {
+            sets::mark(s, needed);
+            size
+        }
+        Read::Constant(_) => size,
+        Read::Operator(_) => size,
+        Read::Nothing => size,
     }
-    if code == 0x03 {
-        sets::mark(number::two_at(e, i + 1), needed);
-        return 3;
-    }
-    1
 }
 
 // The symbols of an expression become needed.
