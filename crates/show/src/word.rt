@@ -1,5 +1,7 @@
 // Tokens by name. Every writer counts its letters and stores those that fit.
-use expr::number;
+use expr::File;
+use expr::token;
+use expr::token::Read;
 ghost use mathlib.Core.Path.{_≡_};
 ghost use mathlib.Core.Bool.{true};
 ghost use Prim.Native.Nat.{_+_, _*_, _^_, _≤_, _<_};
@@ -79,25 +81,25 @@ fn put_token(e: &[u8], i: usize, out: &mut [u8], at: usize) -> Put
         (readText (readToken Trace (drop i (now (e .entry))))) (now (out .exit)) (r .to) × (r .to ≤ at + 6 * r .size) ⌝ }
 {
     let a = write::fit_byte(0x20, out, at);
-    let code = e[i];
-    if code == 0x01 {
-        let w = number::word_at(e, i + 1);
-        return Put {
-            size: 5,
+    let t = token::token_here(e, i, File::Trace);
+    let size = token::size_of(t, File::Trace);
+    match t {
+        Read::Constant(w) => Put {
+            size: size,
             to: write::fit_decimal(w, out, a),
-        };
-    }
-    if code == 0x03 {
-        let symbol = number::two_at(e, i + 1);
-        let b = write::fit_byte(0x73, out, a);
-        return Put {
-            size: 3,
-            to: write::fit_decimal(symbol as u32, out, b),
-        };
-    }
-    Put {
-        size: 1,
-        to: put_name(code, out, a),
+        },
+        Read::Symbol(s) => {
+            let b = write::fit_byte(0x73, out, a);
+            Put {
+                size: size,
+                to: write::fit_decimal(s as u32, out, b),
+            }
+        }
+        Read::Operator(code) => Put {
+            size: size,
+            to: put_name(code, out, a),
+        },
+        Read::Nothing => Put { size: size, to: a },
     }
 }
 

@@ -1,146 +1,161 @@
--- A space, and then what the token at the place is, by its code.
+-- A space, and then the text that what is read of the token says.
+use Prim.Native.Nat.{ℕ, _<_}
 use borrow.Author.Needs.{needs}
 use Rattle.show.proofs.word.put_token.Statement.{statement}
 use Rattle.show.proofs.word.put_token.Tie as tie
 use native.Mathlib.Omega.{arith}
-use lib.ListN.{getD}
-use mathlib.Core.List.{_++_}
-use Rattle.write.specs.SpliceLaws.{_then_}
-use Rattle.write.specs.Ascii.{ascii}
-use Rattle.write.specs.Decimal.{decimal}
-use Rattle.show.specs.Shown.{nameOf}
-use Rattle.show.proofs.Exprs.{Is, token-wrote, some-size, constant, constant-is, symbol, symbol-is, operates, operator-text}
-
-constant-here : (c : tie.After-word-at) → Is (c .before .before .before .before .before .before .before .before .before .args .e .now)
-    (c .before .before .before .before .before .before .before .before .before .args .i) 5 (decimal (c .word-at .result))
-constant-here c =
-    constant-is _ _ (c .before .before .before .before .before .before .before .before .before .pre .0)
-    (c .before .before .before .before .before .before .before .before .before .pre .1) (c .before .if1 .taken) (c .word-at .result)
-    (c .word-at .ensures)
-
-symbol-here : (c : tie.After-two-at) → Is (c .before .before .before .before .before .before .before .before .before .before .args .e .now)
-    (c .before .before .before .before .before .before .before .before .before .before .args .i) 3
-    (ascii "s" ++ decimal (c .two-at .result))
-symbol-here c =
-    symbol-is _ _ (c .before .before .before .before .before .before .before .before .before .before .pre .0)
-    (c .before .before .before .before .before .before .before .before .before .before .pre .1) (c .before .if2 .taken) (c .two-at .result)
-    (c .two-at .ensures .0)
-
-operator-here : (c : tie.Else2) → Is (c .before .before .before .before .before .before .before .before .before .args .e .now)
-    (c .before .before .before .before .before .before .before .before .before .args .i) 1
-    (nameOf (getD (c .before .before .before .before .before .before .before .before .before .args .e .now)
-    (c .before .before .before .before .before .before .before .before .before .args .i) 0))
-operator-here c =
-    operator-text _ _ (c .before .before .before .before .before .before .before .before .before .pre .0)
-    (c .before .before .before .before .before .before .before .before .before .pre .1) (c .before .if1 .left) (c .if2 .left)
+use mathlib.Core.Path.{_≡_, sym, ap, _∙_}
+use mathlib.Core.Option.{Option}
+use lib.ListN.{drop}
+use Rattle.expr.specs.declared.File.the-variants.{Trace}
+use Rattle.expr.specs.declared.token.Read.{Read}
+use Rattle.expr.specs.declared.token.Read.the-variants as R
+use Rattle.expr.specs.Token.{Token, readToken}
+use Rattle.expr.specs.Shown.{shownToken, readSize, sizeOf}
+use Rattle.expr.proofs.Reading.{read-size, shown-operator}
+use Rattle.expr.proofs.Steps.{stands-size, not-nothing, symbol-below}
+use Rattle.write.specs.SpliceLaws.{_then_, wrote-as}
+use Rattle.show.proofs.Exprs.{constant-text, symbol-text, operator-text}
 
 fit-byte-requires : tie.Need-fit-byte-requires
-fit-byte-requires c κs = search (needs, some-size _ _ (c .before .before .before .pre .0) (c .before .before .before .pre .1))
+fit-byte-requires c κs = let s = c .before .before .before in
+    search (needs, stands-size Trace 4160 (s .args .e .now) (s .args .i) (s .pre .1))
 
-shared-slice-read-code : tie.Need-shared-slice-read-code
-shared-slice-read-code c = search needs
+token-here-requires : tie.Need-token-here-requires
+token-here-requires c κs = let s = c .before .before .before .before .before .before in
+    (s .pre .0, stands-size Trace 4160 (s .args .e .now) (s .args .i) (s .pre .1))
 
-add-word-at : tie.Need-add-word-at
-add-word-at c = search needs
+size-of-requires : tie.Need-size-of-requires
+size-of-requires c κs = search needs
 
-word-at-requires : tie.Need-word-at-requires
-word-at-requires c κs =
-    omega (
-      arith,
-      constant _ _ (c .before .before .before .before .before .before .before .before .pre .0)
-          (c .before .before .before .before .before .before .before .before .pre .1) (c .if1 .taken) .there,
-    )
+-- the token, and its bytes
+module _ (c : tie.After-size-of) where
+  abbrev start : tie.Start
+  start = c .before .before .before .before .before .before .before .before
+
+  abbrev here : Option Token
+  here = readToken Trace (drop (start .args .i) (start .args .e .now))
+
+  abbrev read : Read
+  read = c .before .token-here .result
+
+  is-read : read ≡ shownToken here
+  is-read = c .before .token-here .ensures
+
+  size-is : c .size-of .result ≡ sizeOf Trace here
+  size-is = c .size-of .ensures ∙ read-size Trace here is-read
+
+  size-by : {t : Read} → read ≡ t → sizeOf Trace here ≡ readSize Trace t
+  size-by p = sym (size-is) ∙ c .size-of .ensures ∙ ap (readSize Trace) p
+
+  symbol-small : {s : ℕ} → read ≡ R.Symbol s → s < 4160
+  symbol-small p = symbol-below Trace 4160 (start .args .e .now) (start .args .i) (start .pre .1) is-read p
+
+  nothing-is : read ≡ R.Nothing → ⊥
+  nothing-is p = not-nothing Trace 4160 (start .args .e .now) (start .args .i) (start .pre .1) is-read p
+
+enum-known-t : tie.Need-enum-known-t
+enum-known-t c = search needs
 
 fit-decimal-requires : tie.Need-fit-decimal-requires
-fit-decimal-requires c κs = search (needs, constant-here (c .before) .size)
+fit-decimal-requires c κs = search (needs, size-by (c .before .before .before .before) (c .before .before .t .given .1))
+
+enum-known-t-2 : tie.Need-enum-known-t-2
+enum-known-t-2 c = search needs
+
+fit-byte-requires-2 : tie.Need-fit-byte-requires-2
+fit-byte-requires-2 c κs = search (needs, size-by (c .before .before .before .before) (c .before .before .t2 .given .1))
+
+cast-fit-decimal : tie.Need-cast-fit-decimal
+cast-fit-decimal c =
+    let told = c .before .before .before .before .before .t2 .given .1 in
+    omega (arith, symbol-small (c .before .before .before .before .before .before .before) told)
+
+fit-decimal-requires-2 : tie.Need-fit-decimal-requires-2
+fit-decimal-requires-2 c κs =
+    let told = c .before .before .before .before .before .before .t2 .given .1 in
+    search (needs, size-by (c .before .before .before .before .before .before .before .before) told)
+
+enum-known-t-3 : tie.Need-enum-known-t-3
+enum-known-t-3 c = search needs
+
+put-name-requires : tie.Need-put-name-requires
+put-name-requires c κs = let at = c .before .before .before .before in let told = c .before .before .t3 .given .1 in
+    (shown-operator (here at) _ (sym (is-read at) ∙ told) .pops-some, search (needs, size-by at told))
+
+enum-told : tie.Need-enum-told
+enum-told c = search needs
 
 same-length : tie.Need-same-length
 same-length c = search needs
 
 returns : tie.Need-returns
 returns c =
-    token-wrote (constant-here (c .before .before .before .before))
-    (c .before .before .before .before .before .before .before .before .before .fit-byte .ensures then
-    c .before .before .fit-decimal .ensures .0)
-    (omega (
-      arith,
-      c .before .before .before .before .before .before .before .before .before .fit-byte .ensures .next,
-      c .before .before .fit-decimal .ensures .1,
-    ))
-
-add-two-at : tie.Need-add-two-at
-add-two-at c = search needs
-
-two-at-requires : tie.Need-two-at-requires
-two-at-requires c κs =
-    omega (
-      arith,
-      symbol _ _ (c .before .before .before .before .before .before .before .before .before .pre .0)
-          (c .before .before .before .before .before .before .before .before .before .pre .1) (c .if2 .taken) .there,
+    let at = c .before .before .before .before .before .before .before in
+    let told = c .before .before .before .before .before .t .given .1 in
+    let fit-byte = at .before .before .before .before .fit-byte in
+    let fit-decimal = c .before .before .fit-decimal in (
+      size-is at,
+      wrote-as (constant-text (here at) (is-read at) told) (fit-byte .ensures then fit-decimal .ensures .0),
+      omega (arith, size-is at, size-by at told, fit-byte .ensures .next, fit-decimal .ensures .1),
     )
-
-fit-byte-requires-2 : tie.Need-fit-byte-requires-2
-fit-byte-requires-2 c κs = search (needs, symbol-here (c .before) .size)
-
-cast-fit-decimal : tie.Need-cast-fit-decimal
-cast-fit-decimal c = search needs
-
-fit-decimal-requires-2 : tie.Need-fit-decimal-requires-2
-fit-decimal-requires-2 c κs = search (needs, symbol-here (c .before .before .before .before .before) .size)
 
 same-length-2 : tie.Need-same-length-2
 same-length-2 c = search needs
 
 returns-2 : tie.Need-returns-2
 returns-2 c =
-    let fit-byte = c .before .before .before .before .before .before .before .before .before .before .before .before .before .before
-    .fit-byte in
-    let after-two-at = c .before .before .before .before .before .before .before .before in
+    let at = c .before .before .before .before .before .before .before .before .before .before .before in
+    let told = c .before .before .before .before .before .before .before .before .before .t2 .given .1 in
+    let fit-byte = at .before .before .before .before .fit-byte in
     let fit-byte2 = c .before .before .before .before .before .before .fit-byte2 in
-    let fit-decimal2 = c .before .before .fit-decimal2 in
-    token-wrote (symbol-here after-two-at) (fit-byte .ensures then fit-byte2 .ensures then fit-decimal2 .ensures .0)
-    (omega (arith, fit-byte .ensures .next, fit-byte2 .ensures .next, fit-decimal2 .ensures .1))
-
-put-name-requires : tie.Need-put-name-requires
-put-name-requires c κs = (
-  operates _ _ (c .before .before .before .before .before .before .before .before .before .before .pre .0)
-      (c .before .before .before .before .before .before .before .before .before .before .pre .1) (c .before .before .if1 .left)
-      (c .before .if2 .left) .pops-some,
-  search (needs, operator-here (c .before) .size),
-)
+    let fit-decimal2 = c .before .before .fit-decimal2 in (
+      size-is at,
+      wrote-as (symbol-text (here at) (is-read at) told) (fit-byte .ensures then fit-byte2 .ensures then fit-decimal2 .ensures .0),
+      omega (arith, size-is at, size-by at told, fit-byte .ensures .next, fit-byte2 .ensures .next, fit-decimal2 .ensures .1),
+    )
 
 same-length-3 : tie.Need-same-length-3
 same-length-3 c = search needs
 
 returns-3 : tie.Need-returns-3
 returns-3 c =
-    token-wrote (operator-here (c .before .before .before .before))
-    (c .before .before .before .before .before .before .before .before .before .fit-byte .ensures then
-    c .before .before .put-name .ensures .0)
-    (omega (
-      arith,
-      c .before .before .before .before .before .before .before .before .before .fit-byte .ensures .next,
-      c .before .before .put-name .ensures .1,
-    ))
+    let at = c .before .before .before .before .before .before .before in
+    let told = c .before .before .before .before .before .t3 .given .1 in
+    let fit-byte = at .before .before .before .before .fit-byte in
+    let put-name = c .before .before .put-name in (
+      size-is at,
+      wrote-as (operator-text (here at) (is-read at) told) (fit-byte .ensures then put-name .ensures .0),
+      omega (arith, size-is at, size-by at told, fit-byte .ensures .next, put-name .ensures .1),
+    )
+
+same-length-4 : tie.Need-same-length-4
+same-length-4 c = search needs
+
+returns-4 : tie.Need-returns-4
+returns-4 c = absurd (nothing-is (c .before .before) (c .enum-told .given .1))
 
 pub put-token-spec : {M : Type 1} → statement M
 put-token-spec =
     tie.close
     (tie.spec
     fit-byte-requires
-    shared-slice-read-code
-    add-word-at
-    word-at-requires
+    token-here-requires
+    size-of-requires
+    enum-known-t
     fit-decimal-requires
-    same-length
-    returns
-    add-two-at
-    two-at-requires
+    enum-known-t-2
     fit-byte-requires-2
     cast-fit-decimal
     fit-decimal-requires-2
+    enum-known-t-3
+    put-name-requires
+    enum-told
+    same-length
+    returns
     same-length-2
     returns-2
-    put-name-requires
     same-length-3
-    returns-3)
+    returns-3
+    same-length-4
+    returns-4)
