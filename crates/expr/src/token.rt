@@ -16,12 +16,19 @@ pub enum Read {
     Operator(u8),
 }
 
+// The first bytes of a constant and of a symbol in each kind of file.
+pub const CONSTANT: u8 = 0x01;
+
+pub const TABLE_SYMBOL: u8 = 0x02;
+
+pub const TRACE_SYMBOL: u8 = 0x03;
+
 pub fn symbol_code(file: File) -> u8
     ensures { λ r. ⌜ r ≡ symbolCode file ⌝ }
 {
     match file {
-        File::Table => 0x02,
-        File::Trace => 0x03,
+        File::Table => TABLE_SYMBOL,
+        File::Trace => TRACE_SYMBOL,
     }
 }
 
@@ -64,7 +71,7 @@ pub fn token_at(e: &[u8], at: usize, file: File) -> Read
 {
     let left = e.len() - at - 1;
     let code = e[at];
-    if code == 0x01 {
+    if code == CONSTANT {
         if left < 4 {
             return Read::Nothing;
         }
@@ -88,7 +95,7 @@ pub fn token_here(e: &[u8], at: usize, file: File) -> Read
     ensures { λ r. ⌜ r ≡ shownToken (readToken file (drop at (now (e .entry)))) ⌝ }
 {
     let code = e[at];
-    if code == 0x01 {
+    if code == CONSTANT {
         return Read::Constant(number::word_at(e, at + 1));
     }
     if code == symbol_code(file) {

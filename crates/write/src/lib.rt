@@ -1,4 +1,5 @@
 // Numbers, a trace's tokens and headers, written into a lent buffer. Each writer gives the next place.
+use expr::token;
 ghost use mathlib.Core.List.{[], _∷_};
 ghost use mathlib.Core.Path.{_≡_};
 ghost use Prim.Native.Nat.{_+_, _^_, _≤_, _<_};
@@ -44,7 +45,7 @@ pub fn put_constant(v: u32, out: &mut [u8], at: usize) -> usize
     requires { ⌜ at + 5 ≤ length (now out) ⌝ }
     ensures { λ r. ⌜ Wrote (now (out .entry)) at (tokenBytes Trace (Const v)) (now (out .exit)) r ⌝ }
 {
-    let to = put_byte(0x01, out, at);
+    let to = put_byte(token::CONSTANT, out, at);
     put_word(v, out, to)
 }
 
@@ -52,7 +53,7 @@ pub fn put_symbol(s: usize, out: &mut [u8], at: usize) -> usize
     requires { ⌜ at + 3 ≤ length (now out) ⌝ }
     ensures { λ r. ⌜ Wrote (now (out .entry)) at (tokenBytes Trace (Symbol s)) (now (out .exit)) r ⌝ }
 {
-    let to = put_byte(0x03, out, at);
+    let to = put_byte(token::TRACE_SYMBOL, out, at);
     put_two(s, out, to)
 }
 
