@@ -120,7 +120,11 @@ module _ (b : List ℕ) (K : ℕ) (head : Head) (is : List Instr) (t : List ℕ)
   judged-slice v =
       let unwound = unwind-verdict S is K v (table .ok) in
       let sliced = slice-verdict ts (envOf v) (envOf v) (λ x r. refl) in
-      judged-like-run (encodeTrace (traceHead S) (slice ts)) (slice ts) slice-back v (sym (sliced .0) ∙ unwound .0, sym (sliced .1) ∙ unwound .1)
+      judged-like-run (encodeTrace (traceHead S) (slice ts)) (slice ts) slice-back v (
+        sym (sliced .0) ∙ unwound .0,
+        sym (sliced .1)
+            ∙ unwound .1,
+      )
 
   -- ---- what is not read cannot matter
 
@@ -170,7 +174,8 @@ module _ (b : List ℕ) (K : ℕ) (head : Head) (is : List Instr) (t : List ℕ)
         let one = run-decided v u (subst (λ n. AgreeOn Words n (inputMask S (slice ts)) v u) inputs a) in (
           one,
           verdict-same v u (judgeAnswer t v) (judgeAnswer t u) (judged-trace v) (judged-trace u) one,
-          verdict-same v u (judgeAnswer (encodeTrace (traceHead S) (slice ts)) v) (judgeAnswer (encodeTrace (traceHead S) (slice ts)) u) (judged-slice v)
+          verdict-same v u (judgeAnswer (encodeTrace (traceHead S) (slice ts)) v) (judgeAnswer (encodeTrace (traceHead S) (slice ts)) u)
+              (judged-slice v)
               (judged-slice u) one,
         );
   }
@@ -189,7 +194,8 @@ module _ (b : List ℕ) (K : ℕ) (head : Head) (is : List Instr) (t : List ℕ)
     whole : (v : List ℕ) → judgedWith h t v ≡ judgeAnswer t (wordsIn h S v)
     whole v = judged-as t ts read-back v
 
-    cut : (v : List ℕ) → judgedWith h (encodeTrace (traceHead S) (slice ts)) v ≡ judgeAnswer (encodeTrace (traceHead S) (slice ts)) (wordsIn h S v)
+    cut : (v : List ℕ) → judgedWith h (encodeTrace (traceHead S) (slice ts)) v ≡ judgeAnswer (encodeTrace (traceHead S) (slice ts))
+        (wordsIn h S v)
     cut v = judged-as (encodeTrace (traceHead S) (slice ts)) (slice ts) slice-back v
 
     -- what agrees as it is handed agrees in words

@@ -62,7 +62,8 @@ module _ (c : Call) where
       (leb S most && leb n (limit (fileOf c))) refl
     where
       no-short : leb (headerSize s) (length s) ≡ true → Clear c 1
-      no-short p = clear-past c Short 1 tt (omega arith) (λ other l w. omega arith) (λ h. omega (arith, leb-true (headerSize s) (length s) p))
+      no-short p = clear-past c Short 1 tt (omega arith) (λ other l w. omega arith)
+          (λ h. omega (arith, leb-true (headerSize s) (length s) p))
 
       no-version : Clear c 1 → known (fileOf c) (headerVersion s) ≡ true → Clear c 2
       no-version clear p =

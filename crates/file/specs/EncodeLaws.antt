@@ -11,10 +11,12 @@ use Rattle.expr.specs.Lists.{All, all-take, all-drop}
 use Rattle.expr.specs.Number.{Byte, numberOf, bytesOf}
 use Rattle.expr.specs.NumberLaws.{bytesOf-length, number-written, bytes-read}
 use Rattle.file.specs.File.{Head, headSize, inputsLimit, headerVersion, headerSize, headerTotal, headerInputs, headerCount, headOf}
-use Rattle.file.specs.File.{afterHeader, Body, Good, field, frame, Records, Read, Accepted, recordOf, before, onRecord, records, finish}
+use Rattle.file.specs.File.{afterHeader, Body, Good, field, frame, Records, Read, Accepted, recordOf, before, onRecord, records}
+use Rattle.file.specs.File.{finish}
 use Rattle.file.specs.File.{readFile, header, recordBytes, recordsBytes, encode}
 use Rattle.file.specs.FileLaws.{field-there, frame-there, framed, record-framed, record-good, next-record, Chain, header-length}
-use Rattle.file.specs.FileLaws.{version-written, inputs-written, total-written, count-written, header-is, header-right, file-read, file-is}
+use Rattle.file.specs.FileLaws.{version-written, inputs-written, total-written, count-written, header-is, header-right, file-read}
+use Rattle.file.specs.FileLaws.{file-is}
 
 -- ---- read, then written
 

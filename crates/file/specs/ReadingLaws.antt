@@ -12,11 +12,13 @@ use borrow.Author.Tests.{eqb-true, eqb-false, ne-eqb, le-leb}
 use Rattle.expr.specs.Lists.{All, all-drop}
 use Rattle.expr.specs.Number.{Byte}
 use Rattle.expr.specs.NumberLaws.{number-lt}
-use Rattle.file.specs.File.{Head, headerVersion, headerSize, headerTotal, headerCount, headOf, afterHeader, headerReply, Body, Records, Read, Stop}
+use Rattle.file.specs.File.{Head, headerVersion, headerSize, headerTotal, headerCount, headOf, afterHeader, headerReply, Body}
+use Rattle.file.specs.File.{Records, Read, Stop}
 use Rattle.file.specs.File.{records, Input, Accepted, Refused, finish, readFile}
 use Rattle.file.specs.Shown.{readCount, readingOf, offsetsFrom, offsetsIn, ReadRecords, isAccepted, listed, fileReading, fileCount}
 use Rattle.file.specs.Shown.{ReadFile, Ready}
-use Rattle.file.specs.FileLaws.{head-short, Low, reading-offset, records-chain, count-all, Header, header-is, file-refused, file-read, file-is}
+use Rattle.file.specs.FileLaws.{head-short, Low, reading-offset, records-chain, count-all, Header, header-is, file-refused, file-read}
+use Rattle.file.specs.FileLaws.{file-is}
 use Rattle.file.specs.FileLaws.{file-refused-positive, offsets-length, sets-at}
 use Rattle.file.specs.declared.Reading.{Reading}
 

@@ -14,7 +14,8 @@ use Rattle.expr.specs.Lists.{All}
 use Rattle.expr.specs.Number.{Byte, numberOf}
 use Rattle.expr.specs.Expr.{below, parse}
 use Rattle.expr.specs.Shown.{isWhole, tokensOf}
-use Rattle.file.specs.File.{inputRoom, headerVersion, headerSize, headerInputs, headerCount, afterHeader, Good, frame, Read, Input, Accepted, Refused}
+use Rattle.file.specs.File.{inputRoom, headerVersion, headerSize, headerInputs, headerCount, afterHeader, Good, frame, Read, Input}
+use Rattle.file.specs.File.{Accepted, Refused}
 use Rattle.file.specs.Shown.{isGood, isAccepted, listed, kindOf}
 use Rattle.file.specs.FileLaws.{inputs-room, head-long, header-is, file-is, framed, record-good, Next, next-record, records-chain}
 use Rattle.file.specs.ReadingLaws.{short}
@@ -60,7 +61,8 @@ module _ {s : List ℕ} {at : ℕ} (h : Held symbolRoom loose s at) {e : List �
     test-length = let z : exprStart (getD s (at + 2) 0) ≡ 5 = rw (ne-eqb (getD s (at + 2) 0) 1 k) in omega (arith, expr-length)
 
     pub test-line : (p : ℕ) → p ≡ numberOf 2 (drop (at + 3) s)
-        → decimal p ++ (ascii " " ++ ascii (kindName (kindOf (getD s (at + 2) 0)))) ++ exprText (tokensOf (parse Trace (below symbolRoom) e))
+        → decimal p ++ (ascii " " ++ ascii (kindName (kindOf (getD s (at + 2) 0)))) ++ exprText
+        (tokensOf (parse Trace (below symbolRoom) e))
         ++ ascii "\n" ≡ lineIn (held (drop at s))
     test-line p a =
         let n = ascii (kindName (kindOf (getD s (at + 2) 0))) in

@@ -154,7 +154,8 @@ printed-small (K ∷ b) o = go (readTable b) refl
   where
     go : (x : Input Instr) → readTable b ≡ x → length (printed (K ∷ b)) ≤ 393210
     go (Refused r at) e = omega (arith, ap length (prints-refusal K b r at e), refusal-small r at)
-    go (Accepted head is) e = limits (decLt 4096 (length (unwind Assume S is K))) (decLt 65535 (length (encodeTrace (traceHead S) (unwind Assume S is K))))
+    go (Accepted head is) e = limits (decLt 4096 (length (unwind Assume S is K)))
+        (decLt 65535 (length (encodeTrace (traceHead S) (unwind Assume S is K))))
       where
         S : ℕ
         S = head .inputs

@@ -299,7 +299,8 @@ slice-again s room o h = go (readTrace s) refl h
     go (Refused r at) q h = absurd (omega (arith, refused-positive s r at q))
     go (Accepted head ts) q h = sliced (leb (length (encodeTrace head (slice ts))) room) refl h
       where
-        sliced : (b : Bool) → leb (length (encodeTrace head (slice ts))) room ≡ b → (cond b (sliceOf head (slice ts)) (refusal 10 0)) .reply ≡ 0
+        sliced : (b : Bool) → leb (length (encodeTrace head (slice ts))) room ≡ b
+            → (cond b (sliceOf head (slice ts)) (refusal 10 0)) .reply ≡ 0
             → sliceAnswer ((cond b (sliceOf head (slice ts)) (refusal 10 0)) .bytes) room ≡ cond b (sliceOf head (slice ts)) (refusal 10 0)
         sliced true e h =
             ap (answered room) (slice-accepted s head ts o q)

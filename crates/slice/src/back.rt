@@ -65,7 +65,8 @@ fn step_back(
     kept: &mut [bool],
     needed: &mut [bool],
 ) -> Kept
-    requires { ⌜ (at < 65536) × (length (now needed) ≡ symbolRoom) × (k < length (now kept)) × (behind .count ≤ 4096) × (behind .size < 65536)
+    requires { ⌜ (at < 65536) × (length (now needed) ≡ symbolRoom) × (k < length (now kept)) × (behind .count ≤ 4096)
+        × (behind .size < 65536)
         × (isGood (held (drop at (now trace))) ≡ true) ⌝ }
     ensures { λ r. ⌜ Stepped (held (drop at (now (trace .entry)))) (2 + numberOf 2 (drop at (now (trace .entry)))) k behind
         (now (kept .entry)) (now (needed .entry)) (now (kept .exit)) (now (needed .exit)) r ⌝ }

@@ -100,7 +100,8 @@ module _ (s off : List ℕ) (n K T : ℕ) (head : Head) (is : List Instr) (l : L
         is-here = e;
         good =
             ap (λ o. recordOf (instr T n) (drop o s)) (st i h)
-            ∙ record-more S T n _ x sy (instr-at s S n n (headerSize s) is (subst (λ m. instrs head m (afterHeader s) ≡ Read is) count (f .read))
+            ∙ record-more S T n _ x sy (instr-at s S n n (headerSize s) is
+            (subst (λ m. instrs head m (afterHeader s) ≡ Read is) count (f .read))
             i x xs e);
       }
 

@@ -28,7 +28,8 @@ module _ {s : List ℕ} {at : ℕ} (h : Held symbolRoom loose s at) where
       → valueOf ρ (parse Trace (below T) e) ≡ valueIn (held (drop at s)) ρ
   expr-value ρ T t q = ap (valueOf ρ) (expr-whole T t q) ∙ value-whole ρ (exprOf (h .statement)) ∙ sym (ap (λ b. valueIn b ρ) (h .is))
 
-module _ {s : List ℕ} {at : ℕ} (h : Held symbolRoom loose s at) (cells : List ℕ) (w : ℕ) (v : w ≡ valueIn (held (drop at s)) (envOf cells)) where
+module _ {s : List ℕ} {at : ℕ} (h : Held symbolRoom loose s at) (cells : List ℕ) (w : ℕ)
+    (v : w ≡ valueIn (held (drop at s)) (envOf cells)) where
   abbrev ρ : Env
   ρ = envOf cells
 

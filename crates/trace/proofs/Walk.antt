@@ -71,7 +71,14 @@ module _ (s : List ℕ) (S n : ℕ) (off₀ : List ℕ) where
   on small {off} {marks} {at} {k} {least} w h x e len le i marks′ me least′ se =
       let σ = seen S least marks in
       let small-enough : (p y : ℕ) (t : List Token) → x ≡ Assign p y t → y < length marks
-      = λ p y t q. omega (arith, assigned-below (S + 4096) σ (drop at s) p y t (e ∙ ap {B = Body Stmt} Good q), w .long, small, symbol-room) in
+      = λ p y t q. omega (
+        arith,
+        assigned-below (S + 4096) σ (drop at s) p y t
+            (e ∙ ap {B = Body Stmt} Good q),
+        w .long,
+        small,
+        symbol-room,
+      ) in
       let walking : Walking s S n off₀ (set off k at) (mark marks x) (at + (2 + len)) (k + 1) (leastAfter (Good x) least) = record {
         walk =
             subst (Records.Walking (stmt (S + 4096)) see s n (atFirst S) off₀ (set off k at) (at + (2 + len)) (k + 1))

@@ -187,6 +187,10 @@ pub symbol-room : inputRoom + 4096 ≤ symbolRoom
 unfolding inputRoom symbolRoom
 symbol-room = omega arith
 
+pub symbols-few : symbolRoom ≤ 65536
+unfolding symbolRoom
+symbols-few = omega arith
+
 -- what a statement allows to those after it is within what every accepted statement keeps to
 pub wider-after : (top : ℕ) (σ : Seen) → Wider top σ symbolRoom loose → (bs : List ℕ) (x : Stmt) → recordOf (stmt top σ) bs ≡ Good x
     → Wider top (see σ x) symbolRoom loose

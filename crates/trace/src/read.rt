@@ -67,7 +67,8 @@ fn learn(trace: &[u8], at: usize, inputs: usize, least: usize, assigned: &mut [b
 
 // Reads the records after the header, and stores their offsets.
 fn read_records(trace: &[u8], inputs: usize, n: usize, offsets: &mut [u16]) -> Reading
-    requires { ⌜ (headerSize (now trace) ≤ length (now trace)) × (length (now trace) < 65536) × (inputs ≤ inputRoom) × (n ≤ length (now offsets)) ⌝ }
+    requires { ⌜ (headerSize (now trace) ≤ length (now trace)) × (length (now trace) < 65536) × (inputs ≤ inputRoom)
+        × (n ≤ length (now offsets)) ⌝ }
     ensures { λ r. ⌜ ReadRecords (now (trace .entry)) inputs n (now (offsets .entry)) (now (offsets .exit)) r ⌝ }
 {
     let mut assigned: [bool; SYMBOL_ROOM] = [false; SYMBOL_ROOM];

@@ -37,4 +37,5 @@ past-end (x ∷ xs) zero d h = absurd (omega arith)
 past-end (x ∷ xs) (suc i) d h = past-end xs i d (omega arith)
 
 pub naming-end : (names : List ℕ) (s : ℕ) → Naming names s → inputRoom ≤ s → (x : ℕ) → currentOf names x ≡ x
-naming-end names s v h x = elim (decLt x inputRoom) [ yes l ↦ v .named x (omega arith) | no l ↦ past-end names x x (omega (arith, v .long)) ]
+naming-end names s v h x = elim
+    (decLt x inputRoom) [ yes l ↦ v .named x (omega arith) | no l ↦ past-end names x x (omega (arith, v .long)) ]

@@ -311,7 +311,8 @@ unwind-ok S is K o few count = unwind-well-formed Assume tt S is K o few count
 -- ---- read again
 
 -- the trace of a well-formed table, within the limits, is accepted as what it is
-pub unwind-accepted : (S : ℕ) (is : List Instr) (K : ℕ) → All (InstrOk S (length is)) is → S ≤ inputRoom → length (unwind Assume S is K) ≤ 4096
+pub unwind-accepted : (S : ℕ) (is : List Instr) (K : ℕ) → All (InstrOk S (length is)) is → S ≤ inputRoom
+    → length (unwind Assume S is K) ≤ 4096
     → length (encodeTrace (traceHead S) (unwind Assume S is K)) ≤ 65535
     → readTrace (encodeTrace (traceHead S) (unwind Assume S is K)) ≡ Accepted (traceHead S) (unwind Assume S is K)
 unwind-accepted S is K o few count total =

@@ -23,7 +23,8 @@ struct Sizes {
 fn instr_sizes(table: &[u8], at: usize, n: usize, i: usize) -> Sizes
     requires { ⌜ (at < 65536) × (length (now table) < 65536) × (isGood (recordOf (instr inputRoom n) (drop at (now table))) ≡ true) ⌝ }
     ensures { λ r. ⌜ (r .early ≡ sizeIn false i (recordOf (instr inputRoom n) (drop at (now (table .entry)))))
-        × (r .last ≡ sizeIn true i (recordOf (instr inputRoom n) (drop at (now (table .entry))))) × (r .early ≤ 131200) × (r .last ≤ 131200) ⌝ }
+        × (r .last ≡ sizeIn true i (recordOf (instr inputRoom n) (drop at (now (table .entry))))) × (r .early ≤ 131200)
+        × (r .last ≤ 131200) ⌝ }
 {
     let kind = table[at + 2];
     let size = tokens::expr_size(read::expr_at(table, at));

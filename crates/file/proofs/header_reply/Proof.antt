@@ -18,7 +18,11 @@ returns c = simp (lt-leb _ _ (rw (c .before .header-size .ensures) at (c .if1 .t
 
 returns-2 : tie.Need-returns-2
 unfolding headerReply
-returns-2 c = simp (le-leb _ _ (rw (c .before .before .header-size .ensures) at (c .before .if1 .left)), not-true (c .before .before .before .before .args .known) (c .if2 .taken))
+returns-2 c = simp (
+  le-leb _ _ (rw (c .before .before .header-size .ensures) at (c .before .if1 .left)),
+  not-true
+      (c .before .before .before .before .args .known) (c .if2 .taken),
+)
 
 total-of-requires : tie.Need-total-of-requires
 total-of-requires c κs = rw (c .before .before .header-size .ensures) at (c .before .if1 .left)

@@ -107,7 +107,8 @@ refused-requires-2 c κs = search needs
 returns-2 : tie.Need-returns-2
 returns-2 c =
     let a = c .before .before .before .before .before .before .before .before .before .before .before in
-    no-room (s a) (accepted a) _ _ _ (c .before .before .before .before .before .before .walk-back .ensures) (c .before .before .before .header-size .ensures) (out a)
+    no-room (s a) (accepted a) _ _ _ (c .before .before .before .before .before .before .walk-back .ensures)
+    (c .before .before .before .header-size .ensures) (out a)
     (c .before .if2 .taken) _ (c .refused2 .ensures)
 
 -- and fits the buffer
@@ -176,7 +177,8 @@ returns-3 c =
     let r = c .before .before .before .before .before .before .before .before .before .before .before .before .before in
     let put = c .before .before .before .before .before .before .before .before .before .before .before .put-header-of .ensures in
     slice-written (s (a r)) (accepted (a r)) _ _ _ (walked r .walk-back .ensures) (front r .header-size .ensures) (out (a r)) (r .if2 .left)
-    (put .0) (put .1) (c .before .before .before .before .before .copy-kept .ensures) (c .before .inputs-of .ensures) _ (c .mask-of .ensures)
+    (put .0) (put .1) (c .before .before .before .before .before .copy-kept .ensures) (c .before .inputs-of .ensures) _
+    (c .mask-of .ensures)
 
 pub slice-trace-spec : {M : Type 1} → statement M
 slice-trace-spec =

@@ -14,7 +14,8 @@ inputs-of-requires : tie.Need-inputs-of-requires
 inputs-of-requires c κs = search needs
 
 head-is : (c : tie.After-inputs-of)
-    → record { version = c .before .version-of .result; inputs = c .inputs-of .result } ≡ headOf (c .before .before .before .before .args .s .now)
+    → record { version = c .before .version-of .result; inputs = c .inputs-of .result } ≡ headOf
+    (c .before .before .before .before .args .s .now)
 head-is c = ap₂ {C = Head} (λ v S. record { version = v; inputs = S }) (c .before .version-of .ensures) (c .inputs-of .ensures)
 
 put-header-requires : tie.Need-put-header-requires

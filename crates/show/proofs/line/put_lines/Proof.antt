@@ -20,7 +20,8 @@ header-size-requires c κs = search needs
 
 loop-holds : tie.Need-loop-holds Inv-loop μ-loop
 loop-holds c =
-    listing-start _ _ _ _ (all-at Byte (c .before .before .before .args .trace .now) (λ i h. c .before .before .shared-slice-known .given i .fits))
+    listing-start _ _ _ _ (all-at Byte (c .before .before .before .args .trace .now)
+    (λ i h. c .before .before .shared-slice-known .given i .fits))
     (c .before .before .before .pre .0) (c .before .before .before .pre .1) (c .before .before .before .pre .2) (c .header-size .ensures)
 
 put-line-requires : tie.Need-put-line-requires Inv-loop μ-loop

@@ -14,16 +14,18 @@ use Rattle.expr.specs.Token.{Token, readToken}
 use Rattle.expr.specs.Shown.{shownToken, readSize, sizeOf}
 use Rattle.expr.proofs.Reading.{read-size, shown-operator}
 use Rattle.expr.proofs.Steps.{stands-size, not-nothing, symbol-below}
+use Rattle.trace.specs.Shown.{symbolRoom}
+use Rattle.trace.specs.TraceLaws.{symbols-few}
 use Rattle.write.specs.SpliceLaws.{_then_, wrote-as}
 use Rattle.show.proofs.Exprs.{constant-text, symbol-text, operator-text}
 
 fit-byte-requires : tie.Need-fit-byte-requires
 fit-byte-requires c κs = let s = c .before .before .before in
-    search (needs, stands-size Trace 4160 (s .args .e .now) (s .args .i) (s .pre .1))
+    search (needs, stands-size Trace symbolRoom (s .args .e .now) (s .args .i) (s .pre .1))
 
 token-here-requires : tie.Need-token-here-requires
 token-here-requires c κs = let s = c .before .before .before .before .before .before in
-    (s .pre .0, stands-size Trace 4160 (s .args .e .now) (s .args .i) (s .pre .1))
+    (s .pre .0, stands-size Trace symbolRoom (s .args .e .now) (s .args .i) (s .pre .1))
 
 size-of-requires : tie.Need-size-of-requires
 size-of-requires c κs = search needs
@@ -48,11 +50,11 @@ module _ (c : tie.After-size-of) where
   size-by : {t : Read} → read ≡ t → sizeOf Trace here ≡ readSize Trace t
   size-by p = sym (size-is) ∙ c .size-of .ensures ∙ ap (readSize Trace) p
 
-  symbol-small : {s : ℕ} → read ≡ R.Symbol s → s < 4160
-  symbol-small p = symbol-below Trace 4160 (start .args .e .now) (start .args .i) (start .pre .1) is-read p
+  symbol-small : {s : ℕ} → read ≡ R.Symbol s → s < symbolRoom
+  symbol-small p = symbol-below Trace symbolRoom (start .args .e .now) (start .args .i) (start .pre .1) is-read p
 
   nothing-is : read ≡ R.Nothing → ⊥
-  nothing-is p = not-nothing Trace 4160 (start .args .e .now) (start .args .i) (start .pre .1) is-read p
+  nothing-is p = not-nothing Trace symbolRoom (start .args .e .now) (start .args .i) (start .pre .1) is-read p
 
 enum-known-t : tie.Need-enum-known-t
 enum-known-t c = search needs
@@ -69,7 +71,7 @@ fit-byte-requires-2 c κs = search (needs, size-by (c .before .before .before .b
 cast-fit-decimal : tie.Need-cast-fit-decimal
 cast-fit-decimal c =
     let told = c .before .before .before .before .before .t2 .given .1 in
-    omega (arith, symbol-small (c .before .before .before .before .before .before .before) told)
+    omega (arith, symbol-small (c .before .before .before .before .before .before .before) told, symbols-few)
 
 fit-decimal-requires-2 : tie.Need-fit-decimal-requires-2
 fit-decimal-requires-2 c κs =

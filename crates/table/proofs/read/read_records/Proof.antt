@@ -41,18 +41,21 @@ inside : (c : tie.Else1 Inv-loop μ-loop) → c .before .before .before .loop .a
     ≤ length (c .before .before .before .before .before .before .before .args .table .now)
 inside c =
     record-inside (instr (c .before .before .before .before .before .before .before .args .inputs)
-    (c .before .before .before .before .before .before .before .args .n)) (c .before .before .before .before .before .before .before .args .table .now)
+    (c .before .before .before .before .before .before .before .args .n))
+    (c .before .before .before .before .before .before .before .args .table .now)
     (c .before .before .before .loop .at) (c .before .frame-at .result) (c .before .frame-at .ensures) (c .if1 .left)
 
 cut : (c : tie.Else1 Inv-loop μ-loop) → recordOf (instr (c .before .before .before .before .before .before .before .args .inputs)
     (c .before .before .before .before .before .before .before .args .n))
     (drop (c .before .before .before .loop .at) (c .before .before .before .before .before .before .before .args .table .now))
-    ≡ instr (c .before .before .before .before .before .before .before .args .inputs) (c .before .before .before .before .before .before .before .args .n)
+    ≡ instr (c .before .before .before .before .before .before .before .args .inputs)
+    (c .before .before .before .before .before .before .before .args .n)
     (take (c .before .before .before .loop .at + (2 + c .before .frame-at .result) - (c .before .before .before .loop .at + 2))
     (drop (c .before .before .before .loop .at + 2) (c .before .before .before .before .before .before .before .args .table .now)))
 cut c =
     record-cut (instr (c .before .before .before .before .before .before .before .args .inputs)
-    (c .before .before .before .before .before .before .before .args .n)) (c .before .before .before .before .before .before .before .args .table .now)
+    (c .before .before .before .before .before .before .before .args .n))
+    (c .before .before .before .before .before .before .before .args .table .now)
     (c .before .before .before .loop .at) (c .before .frame-at .result) (c .before .frame-at .ensures) (c .if1 .left)
 
 add-body-reply : tie.Need-add-body-reply Inv-loop μ-loop

@@ -72,7 +72,8 @@ same-length c = search needs
 
 returns-2 : tie.Need-returns-2
 returns-2 c =
-    records-read _ (good (c .before .before .before .before .before .before)) (c .before .before .before .before .before .inputs-of .ensures)
+    records-read _ (good (c .before .before .before .before .before .before))
+    (c .before .before .before .before .before .inputs-of .ensures)
     (c .before .before .before .before .count-of .ensures) (c .before .before .read-records .ensures)
 
 pub read-table-spec : {M : Type 1} → statement M

@@ -141,7 +141,12 @@ slice-aggregate-learn c = sym (c .before .before .before .before .before .before
 learn-requires : tie.Need-learn-requires Inv-loop μ-loop
 learn-requires c κs =
     let i = c .before .before .before .before .before .before .before .before .loop .inv in (
-      omega (arith, i .walk .inside, c .before .before .before .before .before .before .before .before .before .before .before .before .pre .1),
+      omega (
+        arith,
+        i .walk .inside,
+        c .before .before .before .before .before .before .before .before .before .before .before .before .pre
+            .1,
+      ),
       c .before .before .before .before .before .before .before .before .before .before .before .before .pre .2,
       i .long,
       ap isGood

@@ -59,8 +59,13 @@ read-records-requires c κs =
       head z .long,
       small z,
       omega (arith, head z .inputs, inputs-room (headerVersion (s z)), c .before .before .inputs-of .ensures),
-      omega
-          (arith, head z .count, c .before .count-of .ensures, c .before .before .before .before .before .before .before .before .before .pre),
+      omega (
+        arith,
+        head z .count,
+        c .before .count-of .ensures,
+        c .before .before .before .before .before .before .before .before .before
+            .pre,
+      ),
     )
 
 same-length : tie.Need-same-length
@@ -68,7 +73,8 @@ same-length c = search needs
 
 returns-2 : tie.Need-returns-2
 returns-2 c =
-    records-read _ (good (c .before .before .before .before .before .before)) (c .before .before .before .before .before .inputs-of .ensures)
+    records-read _ (good (c .before .before .before .before .before .before))
+    (c .before .before .before .before .before .inputs-of .ensures)
     (c .before .before .before .before .count-of .ensures) (c .before .before .read-records .ensures)
 
 pub read-trace-spec : {M : Type 1} → statement M

@@ -14,7 +14,11 @@ head-size-requires : tie.Need-head-size-requires
 head-size-requires c κs = search needs
 
 mul-result : tie.Need-mul-result
-mul-result c = omega (arith, copies-little _ _ (c .before .before .before .before .before .pre .0) (c .before .before .copy-sizes .ensures .2))
+mul-result c = omega (
+  arith,
+  copies-little _ _ (c .before .before .before .before .before .pre .0)
+      (c .before .before .copy-sizes .ensures .2),
+)
 
 -- all sums are little
 module _ (c : tie.After-struct-known2) where

@@ -8,6 +8,7 @@ use Rattle.expr.specs.declared.File.the-variants.{Table, Trace}
 use Rattle.expr.specs.Shown.{readSize}
 use Rattle.expr.proofs.Steps.{stands-size}
 use Rattle.expr.proofs.Rests.{stands}
+use Rattle.file.specs.File.{inputRoom}
 use Rattle.unwind.proofs.Exprs.{Measuring, MeasureOn, measuring-start, measure-on, measured}
 use borrow.Author.Needs.{needs}
 
@@ -22,7 +23,7 @@ loop-holds c = measuring-start _ (c .before .pre .0)
 
 token-here-requires : tie.Need-token-here-requires Inv-loop μ-loop
 token-here-requires c κs = let v = c .before .loop .inv in let h = c .loop-test .taken in
-    (h, stands-size Table 64 (c .before .before .before .args .e .now) (c .before .loop .i) (stands (v .rest) h))
+    (h, stands-size Table inputRoom (c .before .before .before .args .e .now) (c .before .loop .i) (stands (v .rest) h))
 
 on : (c : tie.After-token-here Inv-loop μ-loop) → MeasureOn (c .before .before .loop .inv)
     (readSize Table (c .token-here .result)) (readSize Trace (c .token-here .result))
