@@ -3,6 +3,7 @@ use Prim.Native.Nat.{ℕ, zero, suc}
 use mathlib.Core.Path.{_≡_, refl}
 use mathlib.Core.List.{List, [], _∷_, _++_}
 use lib.ListN.{length}
+use borrow.Author.Tests.{ne-eqb}
 use Rattle.expr.specs.Word.{unary, binary}
 use Rattle.expr.specs.Token.{operator, readToken}
 use Rattle.expr.specs.Expr.{fits, parseFrom}
@@ -69,6 +70,11 @@ inputs S = 0x01 ∷ 0x00 ∷ 0x06 ∷ S ∷ 0x00 ∷ 0x00 ∷ []
 sixty-four : (readTable (inputs 64) ≡ Accepted (record { version = 1; inputs = 64 }) []) × (readTable (inputs 65) ≡ Refused 4 0)
 unfolding readTable isTable readFile headerReply headSize headerInputs headerCount inputsLimit inputRoom records
 sixty-four = (refl, refl)
+
+-- no other version is a table's
+versions : (v : ℕ) → (v ≡ 1 → ⊥) → readTable (v ∷ 0x00 ∷ 0x06 ∷ 0x00 ∷ 0x00 ∷ 0x00 ∷ []) ≡ Refused 2 0
+unfolding readTable isTable readFile headerReply headSize
+versions v h = rw (ne-eqb v 1 h)
 
 -- two faults in one header: fewer than 6 bytes come before the version, that before the length, that before the limits
 header-order : (readTable (0x02 ∷ 0x00 ∷ 0x09 ∷ []) ≡ Refused 1 0)

@@ -3,6 +3,7 @@ use Prim.Native.Nat.{ℕ, zero, suc}
 use mathlib.Core.Path.{_≡_, refl}
 use mathlib.Core.List.{List, [], _∷_, _++_}
 use lib.ListN.{length}
+use borrow.Author.Tests.{ne-eqb}
 use Rattle.expr.specs.Word.{unary, binary}
 use Rattle.expr.specs.Token.{operator, readToken}
 use Rattle.expr.specs.Expr.{fits, parseFrom}
@@ -213,6 +214,19 @@ symbols : (judgeAnswer (highest 0 0x0F 0xFF) [] ≡ unsafeAt 9) × (judgeAnswer 
 unfolding judgeAnswer readTrace isTrace traceVersion readFile headerReply headSize headerInputs headerCount inputsLimit inputRoom records
     recordOf frame stmt parseFrom readToken operator fits judge value
 symbols = (refl, refl, refl, refl, refl, refl)
+
+-- of S inputs and no statements, by their version
+abbrev empty : (version S : ℕ) → List ℕ
+empty version S = version ∷ 0x00 ∷ 0x06 ∷ S ∷ 0x00 ∷ 0x00 ∷ []
+
+-- a trace has at most 64 inputs, and no other version is a trace's
+inputs : (judgeAnswer (empty 0x81 64) [] ≡ refusedAt 11 0) × (judgeAnswer (empty 0x81 65) [] ≡ refusedAt 4 0)
+unfolding judgeAnswer readTrace isTrace traceVersion readFile headerReply headSize headerInputs headerCount inputsLimit inputRoom records
+inputs = (refl, refl)
+
+versions : (v : ℕ) → (v ≡ 129 → ⊥) → judgeAnswer (empty v 0) [] ≡ refusedAt 2 0
+unfolding judgeAnswer readTrace isTrace traceVersion readFile headerReply headSize
+versions v h = rw (ne-eqb v 129 h)
 
 -- at 7 an assert of symbol 0, so many times
 abbrev asserts : ℕ → List ℕ
