@@ -23,11 +23,11 @@ use Rattle.unwind.specs.Cases.{m5}
 use Rattle.slice.specs.Slice.{slice}
 use Rattle.slice.specs.Answer.{Sliced, sliceAnswer}
 use Rattle.demands.specs.Valuation.{Handed, Words, Bytes, inputIn, ranWith, judgedWith}
-use Rattle.demands.specs.Demand3.{RunUnsafeAt, UnsafeAt, RunOneVerdict, OneVerdict, AgreeOn, OneAnswer, Demand3}
+use Rattle.demands.specs.Demand3.{RunUnsafeAt, UnsafeAt, RunAlike, Alike, AgreeOn, OneAnswer, Demand3}
 use Rattle.demands.proofs.Demand3Proof.{demand3}
 use Rattle.file.specs.File.{headSize, headerInputs, headerCount, inputsLimit, inputRoom, header}
 use Rattle.table.specs.Table.{isTable}
-use Rattle.trace.specs.Trace.{isTrace, traceVersion}
+use Rattle.trace.specs.Trace.{isTrace, traceVersion, oldVersion, tellsBound}
 
 -- ---- trace and slice, through the run
 
@@ -83,7 +83,8 @@ first-written = refl
 
 first-sliced : ((sliceAnswer firstTrace 100) .reply ≡ 0) × ((sliceAnswer firstTrace 100) .mask ≡ 1)
 unfolding traceAnswer traceVersion readTable isTable readFile headerReply headSize headerInputs headerCount inputsLimit inputRoom records
-    recordOf frame instr parseFrom readToken operator fits unwind places encode header sliceAnswer readTrace isTrace stmt slice
+    recordOf frame instr parseFrom readToken operator fits unwind places encode header sliceAnswer readTrace isTrace oldVersion
+    tellsBound stmt slice
 first-sliced = (refl, refl)
 
 -- s0 is 5, and s1 is s
@@ -106,11 +107,11 @@ agree-elsewhere Bytes = record { first-length = refl; second-length = refl; read
     go (suc zero) l b = absurd (omega arith)
     go (suc (suc s)) l b = absurd (omega arith)
 
--- so all three give them one verdict and one place
+-- so all three are unsafe for both or for neither, at one place
 pub one-verdict-elsewhere : (h : Handed)
-    → RunOneVerdict (ranWith h firstAsserted 0 (five-and h 6)) (ranWith h firstAsserted 0 (five-and h 7))
-    × OneVerdict (judgedWith h firstTrace (five-and h 6)) (judgedWith h firstTrace (five-and h 7))
-    × OneVerdict (judgedWith h ((sliceAnswer firstTrace 100) .bytes) (five-and h 6))
+    → RunAlike (ranWith h firstAsserted 0 (five-and h 6)) (ranWith h firstAsserted 0 (five-and h 7))
+    × Alike (judgedWith h firstTrace (five-and h 6)) (judgedWith h firstTrace (five-and h 7))
+    × Alike (judgedWith h ((sliceAnswer firstTrace 100) .bytes) (five-and h 6))
     (judgedWith h ((sliceAnswer firstTrace 100) .bytes) (five-and h 7))
 unfolding headerInputs
 one-verdict-elsewhere h =

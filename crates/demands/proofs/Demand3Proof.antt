@@ -4,17 +4,18 @@
 --    at most 255, the trace is within 4,096 statements and 65,535 bytes, and the bytes t are those of the unwound table (`trace-written`).
 -- 2. Reading gives back what was written. An accepted table is well formed, so its trace is, and so is the slice of that, which is no
 --    longer; what is well formed and within the limits is read as what it is (`read-back`, `slice-back`). Hence slicing refuses nothing.
--- 3. Judging the trace is running the table (`unwind-verdict`), and the slice has its trace's verdict and place (`slice-verdict`). So
---    judging t, or the slice's bytes, answers what running answers, to the last number (`judged-trace`, `judged-slice`): all of
---    demand 3's first sentence.
+-- 3. Judging the trace is running the table (`judge-unwind-cut`), so it answers what running answers, to the last number (`judged-trace`).
+--    The slice is unsafe exactly if its trace is, and at its place (`slice-alike`). That is demand 3's first sentence. Under version 129
+--    the same statements are written but for the kind of the bound's tests, and a cut shows as stopped (`judge-unwind` at Assume).
 -- 4. What is not read cannot matter. An input that the slice reads has its bit in the mask (`mask-bit`), and past the inputs a valuation
---    says nothing. So two valuations that agree on the mask's inputs agree on all that the slice reads, and it has one verdict and one
---    place under both; by step 3 so have the trace and the run.
+--    says nothing. So two valuations that agree on the mask's inputs agree on all that the slice reads, and it is unsafe under both or
+--    under neither, at one place; by step 3 so are the trace and the run.
 -- 5. A valuation of bytes is one of words (`ValuationLaws`), so all of this holds of the calls from C.
-use Prim.Native.Nat.{ℕ}
+use Prim.Native.Nat.{ℕ, suc, _+_, _*_, _≤_}
 use native.Mathlib.Omega.{arith}
+use native.Mathlib.Numerals.{add-one}
 use native.Mathlib.Decide.{decLt}
-use mathlib.Core.Path.{_≡_, refl, sym, ap, _∙_, subst, subst⁻¹}
+use mathlib.Core.Path.{_≡_, refl, sym, ap, ap₂, _∙_, subst, subst⁻¹}
 use mathlib.Core.Logic.{_↔_}
 use mathlib.Core.Bool.{Bool, true, false, cond}
 use mathlib.Core.List.{List}
@@ -25,35 +26,63 @@ use Rattle.expr.specs.Lists.{All}
 use Rattle.expr.specs.Number.{Byte}
 use Rattle.expr.specs.Word.{test}
 use Rattle.expr.specs.Eval.{envOf}
-use Rattle.file.specs.Outcome.{Assume, verdict, placeOf}
-use Rattle.file.specs.File.{Head, headerInputs, Accepted}
+use Rattle.file.specs.Outcome.{Assume, Assert, Bound, Outcome, Ended, Failed, Lost, verdict, unsafe, placeOf}
+use Rattle.file.specs.OutcomeLaws.{unsafe-verdict, unsafe-is}
+use Rattle.file.specs.File.{Head, headerInputs, headerCount, Accepted}
+use Rattle.file.specs.EncodeLaws.{encode-length}
+use Rattle.file.specs.Shown.{listed}
 use Rattle.table.specs.declared.Answer as Ran
-use Rattle.table.specs.Table.{Instr}
+use Rattle.table.specs.Table.{Instr, readTable}
 use Rattle.table.specs.TableLaws.{IsTable, table-ok, table-inputs}
 use Rattle.table.specs.Run.{run}
+use Rattle.table.specs.RunLaws.{run-placed}
 use Rattle.table.specs.Answer as Running
 use Rattle.table.specs.Answer.{runAnswer}
 use Rattle.trace.specs.declared.Answer as Judged
-use Rattle.trace.specs.Trace.{Stmt, readTrace, traceHead, encodeTrace, readsTrace}
+use Rattle.trace.specs.Trace.{Stmt, oldVersion, readTrace, stmtBytes, traceHead, encodeTrace, readsTrace}
 use Rattle.trace.specs.TraceLaws.{trace-inputs}
+use Rattle.trace.specs.EncodeLaws.{room-written, trace-known, old-known, old-room, old-size}
 use Rattle.trace.specs.Judge.{judge}
+use Rattle.trace.specs.AssertsLaws as Outcomes
 use Rattle.trace.specs.Answer as Judging
 use Rattle.trace.specs.Answer.{judgeAnswer}
 use Rattle.unwind.specs.Unwind.{unwind}
-use Rattle.unwind.specs.UnwindLaws.{unwind-ok}
-use Rattle.unwind.specs.AgreeLaws.{unwind-verdict}
+use Rattle.unwind.specs.UnwindLaws.{unwind-count, unwind-ok, unwind-read}
+use Rattle.unwind.specs.SizeLaws.{records-size}
+use Rattle.unwind.specs.Gated.{shownAs}
+use Rattle.unwind.specs.AgreeLaws.{judge-unwind, judge-unwind-cut}
 use Rattle.unwind.specs.Answer.{traceAnswer}
-use Rattle.trace.specs.EncodeLaws.{room-written, trace-known}
 use Rattle.unwind.specs.AnswerLaws.{IsTrace, trace-written, trace-read}
 use Rattle.slice.specs.Slice.{slice}
 use Rattle.slice.specs.Mask.{inputMask}
-use Rattle.slice.specs.SliceLaws.{slice-verdict, slice-fits, slice-read, slice-done}
+use Rattle.slice.specs.SliceLaws.{slice-alike, slice-fits, slice-read, slice-done}
 use Rattle.slice.specs.MaskLaws.{mask-bit}
 use Rattle.slice.specs.Answer as Slicing
 use Rattle.slice.specs.Answer.{sliceAnswer}
 use Rattle.demands.specs.Valuation.{Handed, Words, lengthFor, ranWith, judgedWith}
 use Rattle.demands.proofs.ValuationLaws.{wordsIn, words-length, words-input, ran-words, judged-words}
-use Rattle.demands.specs.Demand3.{RunUnsafeAt, UnsafeAt, RunOneVerdict, OneVerdict, AgreeOn, OneAnswer, Demand3}
+use Rattle.demands.specs.Demand3.{RunUnsafeAt, UnsafeAt, Same, asIs, cutAsStopped, RunAlike, Alike, Within, AgreeOn, OneAnswer}
+use Rattle.demands.specs.Demand3.{oldTrace, Demand3}
+
+-- ---- outcomes and their numbers
+
+-- outcomes that are alike have numbers that are
+numbers-alike : (o u : Outcome) → Outcomes.Alike o u → ((verdict o ≡ 1) ↔ (verdict u ≡ 1)) × (placeOf o ≡ placeOf u)
+numbers-alike o u a = (
+  (
+    λ e. unsafe-verdict u .1 (sym (a .0) ∙ unsafe-verdict o .0 e),
+    λ e. unsafe-verdict o .1 (a .0 ∙ unsafe-verdict u .0 e),
+  ),
+  a .1,
+)
+
+-- a trace of version 129 shows a cut as stopped
+shown-old : (o : Outcome) → (cutAsStopped (verdict o) ≡ verdict (shownAs Assume o)) × (placeOf o ≡ placeOf (shownAs Assume o))
+shown-old Ended = (refl, refl)
+shown-old (Failed Assume p) = (refl, refl)
+shown-old (Failed Assert p) = (refl, refl)
+shown-old (Failed Bound p) = (refl, refl)
+shown-old Lost = (refl, refl)
 
 -- ---- what was written is read
 
@@ -61,9 +90,12 @@ module _ (b : List ℕ) (K : ℕ) (head : Head) (is : List Instr) (t : List ℕ)
   abbrev S : ℕ
   S = head .inputs
 
-  -- the trace's statements
+  -- the trace's statements, and the slice's bytes
   abbrev ts : List Stmt
-  ts = unwind Assume S is K
+  ts = unwind Bound S is K
+
+  abbrev cut : List ℕ
+  cut = encodeTrace (traceHead S) (slice ts)
 
   table : IsTable b S is
   table = table-ok b head is o (w .accepted)
@@ -74,7 +106,7 @@ module _ (b : List ℕ) (K : ℕ) (head : Head) (is : List Instr) (t : List ℕ)
   read-back : readTrace t ≡ Accepted (traceHead S) ts
   read-back = trace-read b K head is t o w
 
-  slice-back : readTrace (encodeTrace (traceHead S) (slice ts)) ≡ Accepted (traceHead S) (slice ts)
+  slice-back : readTrace cut ≡ Accepted (traceHead S) (slice ts)
   slice-back =
       slice-read (traceHead S) ts (trace-known S) (omega (arith, table .inputs, room-written)) (w .count) (w .total)
       (unwind-ok S is K (table .ok) (table .inputs) (w .count))
@@ -88,11 +120,26 @@ module _ (b : List ℕ) (K : ℕ) (head : Head) (is : List Instr) (t : List ℕ)
       go true q = q
       go false q = absurd (let z : _≡_ {A = ℕ} 0 10 = sym h ∙ ap (λ q. q .reply) q in omega arith)
 
-  -- ---- judging answers what running answers
+  -- the trace of version 129, which has as many statements and bytes
+  abbrev oldHead : Head
+  oldHead = record { version = oldVersion; inputs = S }
 
-  -- a run's answer without its back jumps
-  abbrev judged : Ran.Answer → Judged.Answer
-  judged a = record { reply = a .reply; offset = a .offset; verdict = a .verdict; place = a .place }
+  abbrev olds : List Stmt
+  olds = unwind Assume S is K
+
+  old-back : readTrace (encodeTrace oldHead olds) ≡ Accepted oldHead olds
+  old-back =
+      let old = encode-length stmtBytes oldHead olds in
+      let new = encode-length stmtBytes (traceHead S) ts in
+      unwind-read Assume oldHead tt old-known old-room is K (table .ok) (table .inputs)
+      (omega (arith, w .count, unwind-count Assume S is K, unwind-count Bound S is K))
+      (omega (arith, w .total, old, new, old-size, records-size Assume S is K, records-size Bound S is K))
+
+  old-bytes : oldTrace b K ≡ encodeTrace oldHead olds
+  old-bytes =
+      ap₂ (λ S is. encodeTrace (record { version = oldVersion; inputs = S }) (unwind Assume S is K)) inputs (ap listed (w .accepted))
+
+  -- ---- running and judging, by the valuation's length
 
   run-tested : (v : List ℕ) → runAnswer b K v ≡ cond (eqb (length v) S) (Running.answerOf (run is K v)) (Running.refusal 11 0)
   unfolding runAnswer
@@ -101,30 +148,98 @@ module _ (b : List ℕ) (K : ℕ) (head : Head) (is : List Instr) (t : List ℕ)
       ∙ ap (λ x. cond x (cond (eqb (length v) S) (Running.answerOf (run is K v)) (Running.refusal 11 0)) (Running.refusal 8 0))
       (le-leb K 255 (w .bound))
 
-  -- of any trace that is read with the table's inputs and has the run's verdict and place
-  judged-like-run : (s : List ℕ) (us : List Stmt) → readTrace s ≡ Accepted (traceHead S) us → (v : List ℕ)
-      → (verdict (judge us (envOf v)) ≡ verdict ((run is K v) .outcome)) × (placeOf (judge us (envOf v)) ≡ placeOf ((run is K v) .outcome))
-      → judgeAnswer s v ≡ judged (runAnswer b K v)
-  unfolding judgeAnswer
-  judged-like-run s us a v h = ap (Judging.answered v) a ∙ go (eqb (length v) S) ∙ sym (ap judged (run-tested v))
+  run-done : (v : List ℕ) → length v ≡ S → runAnswer b K v ≡ Running.answerOf (run is K v)
+  run-done v h = run-tested v ∙ ap (λ x. cond x (Running.answerOf (run is K v)) (Running.refusal 11 0)) (eq-eqb (length v) S h)
+
+  -- of any trace that is read with the table's inputs
+  module _ (s : List ℕ) {header : Head} {us : List Stmt} (a : readTrace s ≡ Accepted header us) (i : header .inputs ≡ S) where
+    judge-tested : (v : List ℕ) → judgeAnswer s v ≡ cond (eqb (length v) S) (Judging.answerOf (judge us (envOf v))) (Judging.refusal 11 0)
+    unfolding judgeAnswer
+    judge-tested v =
+        ap (Judging.answered v) a
+        ∙ ap (λ n. cond (eqb (length v) n) (Judging.answerOf (judge us (envOf v))) (Judging.refusal 11 0)) i
+
+    judge-done : (v : List ℕ) → length v ≡ S → judgeAnswer s v ≡ Judging.answerOf (judge us (envOf v))
+    judge-done v h =
+        judge-tested v ∙ ap (λ x. cond x (Judging.answerOf (judge us (envOf v))) (Judging.refusal 11 0)) (eq-eqb (length v) S h)
+
+    -- that shows the run's outcome
+    same-as-run : (shown : ℕ → ℕ) → shown 0 ≡ 0 → (v : List ℕ)
+        → (shown (verdict ((run is K v) .outcome)) ≡ verdict (judge us (envOf v)))
+        × (placeOf ((run is K v) .outcome) ≡ placeOf (judge us (envOf v))) → Same shown (runAnswer b K v) (judgeAnswer s v)
+    same-as-run shown z v h =
+        subst⁻¹ (λ r. Same shown r (judgeAnswer s v)) (run-tested v)
+        (subst⁻¹ (λ j. Same shown (cond (eqb (length v) S) (Running.answerOf (run is K v)) (Running.refusal 11 0)) j) (judge-tested v)
+        (go (eqb (length v) S)))
+      where
+        go : (x : Bool) → Same shown (cond x (Running.answerOf (run is K v)) (Running.refusal 11 0))
+            (cond x (Judging.answerOf (judge us (envOf v))) (Judging.refusal 11 0))
+        go true = (refl, h .0, h .1)
+        go false = (refl, z, refl)
+
+    -- that is unsafe where the run is
+    unsafe-as-run : (v : List ℕ) → Outcomes.Alike ((run is K v) .outcome) (judge us (envOf v)) → (p : ℕ)
+        → RunUnsafeAt p (runAnswer b K v) ↔ UnsafeAt p (judgeAnswer s v)
+    unsafe-as-run v h p =
+        subst⁻¹ (λ r. RunUnsafeAt p r ↔ UnsafeAt p (judgeAnswer s v)) (run-tested v)
+        (subst⁻¹ (λ j. RunUnsafeAt p (cond (eqb (length v) S) (Running.answerOf (run is K v)) (Running.refusal 11 0)) ↔ UnsafeAt p j)
+        (judge-tested v) (go (eqb (length v) S)))
+      where
+        n : ((verdict ((run is K v) .outcome) ≡ 1) ↔ (verdict (judge us (envOf v)) ≡ 1))
+            × (placeOf ((run is K v) .outcome) ≡ placeOf (judge us (envOf v)))
+        n = numbers-alike ((run is K v) .outcome) (judge us (envOf v)) h
+
+        go : (x : Bool) → RunUnsafeAt p (cond x (Running.answerOf (run is K v)) (Running.refusal 11 0))
+            ↔ UnsafeAt p (cond x (Judging.answerOf (judge us (envOf v))) (Judging.refusal 11 0))
+        go true = (λ u. (refl, n .0 .0 (u .1), sym (n .1) ∙ u .2), λ u. (refl, n .0 .1 (u .1), n .1 ∙ u .2))
+        go false = (λ u. absurd (omega (arith, u .0)), λ u. absurd (omega (arith, u .0)))
+
+  -- ---- judging is running
+
+  traced : (v : List ℕ) → judge ts (envOf v) ≡ (run is K v) .outcome
+  traced v = judge-unwind-cut S is K v (table .ok)
+
+  run-alike : (v : List ℕ) → Outcomes.Alike ((run is K v) .outcome) (judge ts (envOf v))
+  run-alike v = (ap unsafe (sym (traced v)), ap placeOf (sym (traced v)))
+
+  slice-as-run : (v : List ℕ) → Outcomes.Alike ((run is K v) .outcome) (judge (slice ts) (envOf v))
+  slice-as-run v =
+      let ran = run-alike v in
+      let kept = slice-alike ts (envOf v) (envOf v) (λ x r. refl) in
+      (ran .0 ∙ kept .0, ran .1 ∙ kept .1)
+
+  judged-trace : (v : List ℕ) → Same asIs (runAnswer b K v) (judgeAnswer t v)
+  judged-trace v = same-as-run t read-back refl asIs refl v (ap verdict (sym (traced v)), ap placeOf (sym (traced v)))
+
+  judged-old : (v : List ℕ) → Same cutAsStopped (runAnswer b K v) (judgeAnswer (encodeTrace oldHead olds) v)
+  judged-old v =
+      let shown = judge-unwind Assume S is K v (table .ok) in
+      let old = shown-old ((run is K v) .outcome) in
+      same-as-run (encodeTrace oldHead olds) old-back refl cutAsStopped refl v (old .0 ∙ sym (ap verdict shown), old .1 ∙ sym (ap placeOf shown))
+
+  -- ---- within the bound
+
+  placed : (v : List ℕ) (p : ℕ) → RunUnsafeAt p (runAnswer b K v) → Within (headerCount b) K (runAnswer b K v)
+  placed v p u = go (eqb (length v) S) (run-tested v)
     where
-      go : (x : Bool) → cond x (Judging.answerOf (judge us (envOf v))) (Judging.refusal 11 0)
-          ≡ judged (cond x (Running.answerOf (run is K v)) (Running.refusal 11 0))
-      go true = λ i. record { reply = 0; offset = 0; verdict = h .0 i; place = h .1 i }
-      go false = refl
+      ran : Within (headerCount b) K (Running.answerOf (run is K v))
+          → runAnswer b K v ≡ Running.answerOf (run is K v) → Within (headerCount b) K (runAnswer b K v)
+      ran x e = subst⁻¹ (Within (headerCount b) K) e x
 
-  judged-trace : (v : List ℕ) → judgeAnswer t v ≡ judged (runAnswer b K v)
-  judged-trace v = judged-like-run t ts read-back v (unwind-verdict S is K v (table .ok))
-
-  judged-slice : (v : List ℕ) → judgeAnswer (encodeTrace (traceHead S) (slice ts)) v ≡ judged (runAnswer b K v)
-  judged-slice v =
-      let unwound = unwind-verdict S is K v (table .ok) in
-      let sliced = slice-verdict ts (envOf v) (envOf v) (λ x r. refl) in
-      judged-like-run (encodeTrace (traceHead S) (slice ts)) (slice ts) slice-back v (
-        sym (sliced .0) ∙ unwound .0,
-        sym (sliced .1)
-            ∙ unwound .1,
-      )
+      go : (x : Bool) → runAnswer b K v ≡ cond x (Running.answerOf (run is K v)) (Running.refusal 11 0)
+          → Within (headerCount b) K (runAnswer b K v)
+      go false e = absurd (let z : _≡_ {A = ℕ} 0 11 = sym (u .0) ∙ ap (λ r. r .reply) e in omega arith)
+      go true e =
+          let q = run-placed S is K (table .ok) v in
+          let o = (run is K v) .outcome in
+          let one : verdict ((run is K v) .outcome) ≡ 1 = sym (ap (λ r. r .verdict) e) ∙ u .1 in
+          let at = q .place Assert (placeOf o) (unsafe-is o (unsafe-verdict o .0 one)) in
+          ran (record {
+            few = q .few;
+            instruction = at .0;
+            inside = omega (arith, at .1, table .count);
+            place = at .2 ∙ ap (λ n. (run is K v) .backJumps * n + at .0) (ap suc (table .count) ∙ sym (add-one (headerCount b)));
+          }) e
 
   -- ---- what is not read cannot matter
 
@@ -138,79 +253,76 @@ module _ (b : List ℕ) (K : ℕ) (head : Head) (is : List Instr) (t : List ℕ)
             ∙ sym (List·getD-eq-default u 0 {n = x} (omega (arith, a .second-length)))
       ]
 
-  run-done : (v : List ℕ) → length v ≡ S → runAnswer b K v ≡ Running.answerOf (run is K v)
-  run-done v h = run-tested v ∙ ap (λ x. cond x (Running.answerOf (run is K v)) (Running.refusal 11 0)) (eq-eqb (length v) S h)
+  module _ (v u : List ℕ) (a : AgreeOn Words S (inputMask S (slice ts)) v u) where
+    -- the trace under one valuation, its slice under the other
+    apart : Outcomes.Alike (judge ts (envOf v)) (judge (slice ts) (envOf u))
+    apart = slice-alike ts (envOf v) (envOf u) (read-same v u a)
 
-  run-decided : (v u : List ℕ) → AgreeOn Words S (inputMask S (slice ts)) v u → RunOneVerdict (runAnswer b K v) (runAnswer b K u)
-  run-decided v u a =
-      let first = unwind-verdict S is K v (table .ok) in
-      let second = unwind-verdict S is K u (table .ok) in
-      let apart = slice-verdict ts (envOf v) (envOf u) (read-same v u a) in
-      let same = slice-verdict ts (envOf u) (envOf u) (λ x r. refl) in
-      let ran = run-done v (a .first-length) in
-      let rerun = run-done u (a .second-length) in (
-        ap (λ r. r .verdict) ran ∙ sym (first .0) ∙ apart .0 ∙ sym (same .0) ∙ second .0 ∙ sym (ap (λ r. r .verdict) rerun),
-        ap (λ r. r .place) ran ∙ sym (first .1) ∙ apart .1 ∙ sym (same .1) ∙ second .1 ∙ sym (ap (λ r. r .place) rerun),
-      )
+    runs-alike : Outcomes.Alike ((run is K v) .outcome) ((run is K u) .outcome)
+    runs-alike =
+        let first = run-alike v in
+        let second = slice-as-run u in
+        (first .0 ∙ apart .0 ∙ sym (second .0), first .1 ∙ apart .1 ∙ sym (second .1))
 
-  -- ---- together
+    run-decided : RunAlike (runAnswer b K v) (runAnswer b K u)
+    run-decided =
+        subst⁻¹ (λ r. RunAlike r (runAnswer b K u)) (run-done v (a .first-length))
+        (subst⁻¹ (RunAlike (Running.answerOf (run is K v))) (run-done u (a .second-length)) (numbers-alike ((run is K v) .outcome) ((run is K u) .outcome) runs-alike))
 
-  unsafe-same : (v : List ℕ) (j : Judged.Answer) → j ≡ judged (runAnswer b K v) → (p : ℕ) → RunUnsafeAt p (runAnswer b K v) ↔ UnsafeAt p j
-  unsafe-same v j e p = (subst (UnsafeAt p) (sym e), subst (UnsafeAt p) e)
+    judge-decided : (s : List ℕ) {us : List Stmt} → readTrace s ≡ Accepted (traceHead S) us
+        → Outcomes.Alike (judge us (envOf v)) (judge us (envOf u)) → Alike (judgeAnswer s v) (judgeAnswer s u)
+    judge-decided s {us} r h =
+        subst⁻¹ (λ j. Alike j (judgeAnswer s u)) (judge-done s r refl v (a .first-length))
+        (subst⁻¹ (Alike (Judging.answerOf (judge us (envOf v)))) (judge-done s r refl u (a .second-length))
+        (numbers-alike (judge us (envOf v)) (judge us (envOf u)) h))
 
-  verdict-same : (v u : List ℕ) (j k : Judged.Answer) → j ≡ judged (runAnswer b K v) → k ≡ judged (runAnswer b K u)
-      → RunOneVerdict (runAnswer b K v) (runAnswer b K u) → OneVerdict j k
-  verdict-same v u j k e f h =
-      (ap (λ a. a .verdict) e ∙ h .0 ∙ sym (ap (λ a. a .verdict) f), ap (λ a. a .place) e ∙ h .1 ∙ sym (ap (λ a. a .place) f))
+    all-decided : RunAlike (runAnswer b K v) (runAnswer b K u) × Alike (judgeAnswer t v) (judgeAnswer t u)
+        × Alike (judgeAnswer cut v) (judgeAnswer cut u)
+    all-decided =
+        let first = slice-alike ts (envOf v) (envOf v) (λ x r. refl) in
+        let second = slice-alike ts (envOf u) (envOf u) (λ x r. refl) in (
+          run-decided,
+          judge-decided t read-back (apart .0 ∙ sym (second .0), apart .1 ∙ sym (second .1)),
+          judge-decided cut slice-back (sym (first .0) ∙ apart .0, sym (first .1) ∙ apart .1),
+        )
 
-  words-answer : OneAnswer Words b K t (Slicing.sliceOf (traceHead S) (slice ts))
-  words-answer = record {
-    none-refused = λ v h.
-        let done = ap (λ a. a .reply) (run-done v (h ∙ inputs)) in
-        (done, ap (λ a. a .reply) (judged-trace v) ∙ done, ap (λ a. a .reply) (judged-slice v) ∙ done);
-    run-trace = λ v p. unsafe-same v (judgeAnswer t v) (judged-trace v) p;
-    run-slice = λ v p. unsafe-same v (judgeAnswer (encodeTrace (traceHead S) (slice ts)) v) (judged-slice v) p;
-    read-decides = λ v u a.
-        let one = run-decided v u (subst (λ n. AgreeOn Words n (inputMask S (slice ts)) v u) inputs a) in (
-          one,
-          verdict-same v u (judgeAnswer t v) (judgeAnswer t u) (judged-trace v) (judged-trace u) one,
-          verdict-same v u (judgeAnswer (encodeTrace (traceHead S) (slice ts)) v) (judgeAnswer (encodeTrace (traceHead S) (slice ts)) u)
-              (judged-slice v)
-              (judged-slice u) one,
-        );
-  }
-
-  -- ---- as the valuation is handed
+  -- ---- and so for valuations however they are handed
 
   module _ (h : Handed) where
+    ws : List ℕ → List ℕ
+    ws v = wordsIn h S v
+
     ran : (v : List ℕ) → ranWith h b K v ≡ runAnswer b K (wordsIn h S v)
     ran v = ran-words h b K v ∙ ap (λ n. runAnswer b K (wordsIn h n v)) inputs
 
     -- judging a trace that is read with the table's inputs
-    judged-as : (s : List ℕ) (us : List Stmt) → readTrace s ≡ Accepted (traceHead S) us → (v : List ℕ)
+    judged-as : (s : List ℕ) {header : Head} {us : List Stmt} → readTrace s ≡ Accepted header us → header .inputs ≡ S → (v : List ℕ)
         → judgedWith h s v ≡ judgeAnswer s (wordsIn h S v)
-    judged-as s us a v = judged-words h s v ∙ ap (λ n. judgeAnswer s (wordsIn h n v)) (trace-inputs s (traceHead S) us a)
+    judged-as s {header} {us} a i v =
+        judged-words h s v ∙ ap (λ n. judgeAnswer s (wordsIn h n v)) (trace-inputs s header us a ∙ i)
 
     whole : (v : List ℕ) → judgedWith h t v ≡ judgeAnswer t (wordsIn h S v)
-    whole v = judged-as t ts read-back v
+    whole v = judged-as t read-back refl v
 
-    cut : (v : List ℕ) → judgedWith h (encodeTrace (traceHead S) (slice ts)) v ≡ judgeAnswer (encodeTrace (traceHead S) (slice ts))
-        (wordsIn h S v)
-    cut v = judged-as (encodeTrace (traceHead S) (slice ts)) (slice ts) slice-back v
+    sliced : (v : List ℕ) → judgedWith h cut v ≡ judgeAnswer cut (wordsIn h S v)
+    sliced v = judged-as cut slice-back refl v
+
+    -- what holds of a run and a judged trace with the words
+    both : (P : Ran.Answer → Judged.Answer → Type 0) (s : List ℕ) (v : List ℕ) → judgedWith h s v ≡ judgeAnswer s (wordsIn h S v)
+        → P (runAnswer b K (wordsIn h S v)) (judgeAnswer s (wordsIn h S v)) → P (ranWith h b K v) (judgedWith h s v)
+    both P s v e x =
+        subst⁻¹ (λ a. P a (judgedWith h s v)) (ran v) (subst⁻¹ (P (runAnswer b K (wordsIn h S v))) e x)
 
     -- what agrees as it is handed agrees in words
-    agree-words : (mask : ℕ) (v u : List ℕ) → AgreeOn h (headerInputs b) mask v u
-        → AgreeOn Words (headerInputs b) mask (wordsIn h S v) (wordsIn h S u)
-    agree-words mask v u a =
-        subst (λ n. AgreeOn Words n mask (wordsIn h S v) (wordsIn h S u)) (sym inputs)
-        (record {
-          first-length = words-length h S v .1 (right v (a .first-length));
-          second-length = words-length h S u .1 (right u (a .second-length));
-          read-inputs = λ s l m.
-              words-input h S v (right v (a .first-length)) s l
-              ∙ a .read-inputs s (omega (arith, inputs)) m
-              ∙ sym (words-input h S u (right u (a .second-length)) s l);
-        })
+    agree-words : (mask : ℕ) (v u : List ℕ) → AgreeOn h (headerInputs b) mask v u → AgreeOn Words S mask (wordsIn h S v) (wordsIn h S u)
+    agree-words mask v u a = record {
+      first-length = words-length h S v .1 (right v (a .first-length));
+      second-length = words-length h S u .1 (right u (a .second-length));
+      read-inputs = λ s l m.
+          words-input h S v (right v (a .first-length)) s l
+          ∙ a .read-inputs s (omega (arith, inputs)) m
+          ∙ sym (words-input h S u (right u (a .second-length)) s l);
+    }
       where
         right : (x : List ℕ) → length x ≡ lengthFor h (headerInputs b) → length x ≡ lengthFor h S
         right x e = e ∙ ap (lengthFor h) inputs
@@ -218,40 +330,38 @@ module _ (b : List ℕ) (K : ℕ) (head : Head) (is : List Instr) (t : List ℕ)
     one-answer : OneAnswer h b K t (Slicing.sliceOf (traceHead S) (slice ts))
     one-answer = record {
       none-refused = λ v e.
-          let n = words-answer .none-refused (wordsIn h S v) (words-length h S v .1 (e ∙ ap (lengthFor h) inputs) ∙ sym inputs) in
-          (ap (λ a. a .reply) (ran v) ∙ n .0, ap (λ a. a .reply) (whole v) ∙ n .1, ap (λ a. a .reply) (cut v) ∙ n .2);
+          let l : length (wordsIn h S v) ≡ S = words-length h S v .1 (e ∙ ap (lengthFor h) inputs) in (
+            ap (λ a. a .reply) (ran v ∙ run-done (wordsIn h S v) l),
+            ap (λ a. a .reply) (whole v ∙ judge-done t read-back refl (wordsIn h S v) l),
+            ap (λ a. a .reply) (sliced v ∙ judge-done cut slice-back refl (wordsIn h S v) l),
+          );
+      one-verdict = λ v. both (Same asIs) t v (whole v) (judged-trace (wordsIn h S v));
       run-trace = λ v p.
-          subst⁻¹ (λ a. RunUnsafeAt p a ↔ UnsafeAt p (judgedWith h t v)) (ran v)
-          (subst⁻¹ (λ a. RunUnsafeAt p (runAnswer b K (wordsIn h S v)) ↔ UnsafeAt p a) (whole v)
-          (words-answer .run-trace (wordsIn h S v) p));
+          both (λ a j. RunUnsafeAt p a ↔ UnsafeAt p j) t v (whole v)
+          (unsafe-as-run t read-back refl (wordsIn h S v) (run-alike (wordsIn h S v)) p);
       run-slice = λ v p.
-          subst⁻¹ (λ a. RunUnsafeAt p a ↔ UnsafeAt p (judgedWith h (encodeTrace (traceHead S) (slice ts)) v)) (ran v)
-          (subst⁻¹ (λ a. RunUnsafeAt p (runAnswer b K (wordsIn h S v)) ↔ UnsafeAt p a) (cut v) (words-answer .run-slice (wordsIn h S v) p));
+          both (λ a j. RunUnsafeAt p a ↔ UnsafeAt p j) cut v (sliced v)
+          (unsafe-as-run cut slice-back refl (wordsIn h S v) (slice-as-run (wordsIn h S v)) p);
+      within = λ v p u. subst⁻¹ (Within (headerCount b) K) (ran v) (placed (wordsIn h S v) p (subst (RunUnsafeAt p) (ran v) u));
       read-decides = λ v u a.
-          let d = words-answer .read-decides (wordsIn h S v) (wordsIn h S u) (agree-words (inputMask S (slice ts)) v u a) in (
-            (
-              ap (λ a. a .verdict) (ran v) ∙ d .0 .0 ∙ sym (ap (λ a. a .verdict) (ran u)),
-              ap (λ a. a .place) (ran v)
-                  ∙ d .0 .1 ∙ sym (ap (λ a. a .place) (ran u)),
-            ),
-            (
-              ap (λ a. a .verdict) (whole v) ∙ d .1 .0 ∙ sym (ap (λ a. a .verdict) (whole u)),
-              ap (λ a. a .place) (whole v)
-                  ∙ d .1 .1 ∙ sym (ap (λ a. a .place) (whole u)),
-            ),
-            (
-              ap (λ a. a .verdict) (cut v) ∙ d .2 .0 ∙ sym (ap (λ a. a .verdict) (cut u)),
-              ap (λ a. a .place) (cut v)
-                  ∙ d .2 .1 ∙ sym (ap (λ a. a .place) (cut u)),
-            ),
+          let d = all-decided (wordsIn h S v) (wordsIn h S u) (agree-words (inputMask S (slice ts)) v u a) in (
+            subst⁻¹ (λ x. RunAlike x (ranWith h b K u)) (ran v) (subst⁻¹ (RunAlike (runAnswer b K (wordsIn h S v))) (ran u) (d .0)),
+            subst⁻¹ (λ x. Alike x (judgedWith h t u)) (whole v) (subst⁻¹ (Alike (judgeAnswer t (wordsIn h S v))) (whole u) (d .1)),
+            subst⁻¹ (λ x. Alike x (judgedWith h cut u)) (sliced v) (subst⁻¹ (Alike (judgeAnswer cut (wordsIn h S v))) (sliced u) (d .2)),
           );
     }
+
+    old-answer : (v : List ℕ) → Same cutAsStopped (ranWith h b K v) (judgedWith h (oldTrace b K) v)
+    old-answer v =
+        subst⁻¹ (λ s. Same cutAsStopped (ranWith h b K v) (judgedWith h s v)) old-bytes
+        (both (Same cutAsStopped) (encodeTrace oldHead olds) v (judged-as (encodeTrace oldHead olds) old-back refl v) (judged-old (wordsIn h S v)))
 
   written-demand : Demand3 b K t
   written-demand = record {
     sliced = λ room h. ap (λ q. q .reply) (slice-done t (traceHead S) ts room read-back
         (omega (arith, slice-fits (traceHead S) ts, ap length (w .bytes))));
     alike = λ h room e. subst (OneAnswer h b K t) (sym (slice-answer room e)) (one-answer h);
+    old = old-answer;
   }
 
 pub demand3 : (b : List ℕ) (K room : ℕ) → All Byte b → (traceAnswer b K room) .reply ≡ 0 → Demand3 b K ((traceAnswer b K room) .bytes)

@@ -210,6 +210,6 @@ table-reply c is o =
 pub trace-reply : (c : Call) → fileOf c ≡ Trace → All Byte (bytesOf c) → FileReply c (readTrace (bytesOf c))
 unfolding readTrace
 trace-reply c is o =
-    file-reply c Trace is (λ head n. stmt (head .inputs + 4096)) see (λ head. atFirst (head .inputs)) (Knows (bytesOf c))
+    file-reply c Trace is (λ head n. stmt (head .inputs + 4096)) see atFirst (Knows (bytesOf c))
     (knows-start (bytesOf c)) (λ k σ w. trace-decided (bytesOf c) o k (recordAt (bytesOf c) k) σ w)
     (λ k σ w a g. knows-next (bytesOf c) k σ w (headerInputs (bytesOf c) + 4096) a g)

@@ -4,8 +4,8 @@ use Prim.Native.Nat.{ℕ, suc, _+_, _-_, _≤_, _<_}
 use native.Mathlib.Omega.{arith}
 use native.Mathlib.Decide.{decLt}
 use mathlib.Core.Path.{_≡_, refl, sym, ap, ap₂, _∙_, subst, fun-ext}
-use mathlib.Core.Bool.{Bool, true, false, _&&_, _||_}
-use mathlib.Core.Option.{some}
+use mathlib.Core.Bool.{Bool, true, false, _&&_, _||_, cond}
+use mathlib.Core.Option.{some, none, Option}
 use mathlib.Core.List.{List}
 use lib.ListN.{length, take, drop, getD, length-drop}
 use lib.Seq.{drop-drop}
@@ -18,18 +18,20 @@ use Rattle.expr.specs.Number.{Byte, numberOf}
 use Rattle.expr.specs.Token.{Token}
 use Rattle.expr.specs.Expr.{below, Parsed, Whole, Breaks, parse}
 use Rattle.expr.specs.ExprLaws.{parse-accepted, parse-written}
-use Rattle.file.specs.Outcome.{Kind, Assume, Assert}
-use Rattle.file.specs.File.{headerInputs, headerCount, Body, Good, Bad, field, rule, holding, frame, recordOf}
+use Rattle.file.specs.Outcome.{Kind, Assume, Assert, Bound}
+use Rattle.file.specs.File.{headerVersion, headerInputs, headerCount, headOf, Body, Good, Bad, field, rule, holding, frame, recordOf}
 use Rattle.file.specs.FileLaws.{frame-there, record-framed, record-unframed, record-good, field-there, field-missing}
 use Rattle.file.specs.RecordLaws as RecordLaws
 use Rattle.table.specs.Table as TableSpec
 use Rattle.table.specs.Table.{Instr, instr}
 use Rattle.table.specs.TableLaws as TableLaws
 use Rattle.trace.specs.Trace as TraceSpec
-use Rattle.trace.specs.Trace.{Stmt, Seen, atFirst, see, stmt}
+use Rattle.trace.specs.Trace.{Stmt, Seen, atFirst, see, stmt, tellsBound, kindCode}
+use Rattle.trace.specs.Shown.{knownTest}
+use Rattle.trace.specs.TraceLaws.{no-assign}
 use Rattle.trace.specs.TraceLaws as TraceLaws
-use Rattle.demands.specs.Replies.{recordAt, lengthAt, kindAt, numberAt, exprAt, fields, assignedBefore, mayRead, IsExpr, Framing}
-use Rattle.demands.specs.Replies.{length-missing, passes-the-end, length-zero, unknown-kind, fields-missing, Ruling}
+use Rattle.demands.specs.Replies.{recordAt, lengthAt, kindAt, numberAt, exprAt, fields, fieldsAt, assignedBefore, mayRead, IsExpr}
+use Rattle.demands.specs.Replies.{Framing, length-missing, passes-the-end, length-zero, unknown-kind, fields-missing, Ruling}
 use Rattle.demands.specs.Replies.{symbol-not-below, target-past-the-end, symbol-of-an-input, symbol-too-high, symbol-not-greater}
 use Rattle.demands.specs.Replies.{Wording, no-expression}
 
@@ -123,12 +125,12 @@ field-cases P w bs f short long =
       | no h ↦ subst P (sym (field-there w bs f (omega arith))) (long (omega arith))
     ]
 
-fields-known : (F : File) (s : List ℕ) (at v : ℕ) → eqb (kindAt s at) v ≡ true → fields F (kindAt s at) ≡ fields F v
-fields-known F s at v e = ap (fields F) (eqb-true (kindAt s at) v e)
+fields-known : (F : File) (s : List ℕ) (at v : ℕ) → eqb (kindAt s at) v ≡ true → fieldsAt F s at ≡ fields F (headerVersion s) v
+fields-known F s at v e = ap (fields F (headerVersion s)) (eqb-true (kindAt s at) v e)
 
 module _ (F : File) (s : List ℕ) (o : All Byte s) (k at : ℕ) (there : frame (drop at s) ≡ 0 → ⊥) where
   -- with m bytes of kind and fields, all of them there
-  module _ (m : ℕ) (e : fields F (kindAt s at) ≡ some m) (h : m ≤ lengthAt s at) where
+  module _ (m : ℕ) (e : fieldsAt F s at ≡ some m) (h : m ≤ lengthAt s at) where
     no-framing : Framing F s at → ⊥
     no-framing (length-missing l) = omega (arith, body-inside s at there)
     no-framing (passes-the-end l) = omega (arith, body-inside s at there)
@@ -230,7 +232,7 @@ module _ (s : List ℕ) (o : All Byte s) (k at : ℕ) where
         (ruled Table s o k at there 3 (fields-known Table s at 4 e) h (TableSpec.IfThenGoto y) (leb y n) (target-ruled y q kind)
         (λ u. target-past-the-end kind (omega (arith, q, leb-false y n u))))))
 
-    instr-test-decided : (v : ℕ) (t : Kind) → eqb (kindAt s at) v ≡ true → fields Table v ≡ some 1 → (v ≡ 1 → ⊥) → (v ≡ 4 → ⊥)
+    instr-test-decided : (v : ℕ) (t : Kind) → eqb (kindAt s at) v ≡ true → fields Table (headerVersion s) v ≡ some 1 → (v ≡ 1 → ⊥) → (v ≡ 4 → ⊥)
         → instr S n instrBytes ≡ TableSpec.test S t (drop 1 instrBytes) → Decided Table s k at (instr S n instrBytes)
     instr-test-decided v t e f p r q =
         let kind : kindAt s at ≡ v = eqb-true (kindAt s at) v e in
@@ -272,13 +274,15 @@ pub record Knows (s : List ℕ) (k : ℕ) (σ : Seen) : Type 0 where
   pub above : headerInputs s ≤ σ .least
   pub greater : (i : ℕ) → i < k → kindAt s (recordAt s i) ≡ 1 → numberAt s (recordAt s i) 3 2 < σ .least
   pub newest : Least s k (σ .least)
+  pub tells : σ .bounds ≡ tellsBound (headerVersion s)
 
-pub knows-start : (s : List ℕ) → Knows s 0 (atFirst (headerInputs s))
+pub knows-start : (s : List ℕ) → Knows s 0 (atFirst (headOf s))
 knows-start s = record {
   reads = fun-ext (λ x. sym (or-false (below (headerInputs s) x)));
   above = omega arith;
   greater = λ i h. absurd (omega arith);
   newest = least-input refl;
+  tells = refl;
 }
 
 -- ---- a record of a trace
@@ -344,7 +348,7 @@ module _ (s : List ℕ) (o : All Byte s) (k at : ℕ) (σ : Seen) (w : Knows s k
         (ruled Trace s o k at there 5 (fields-known Trace s at 1 e) h (TraceSpec.Assign p y) (leb (σ .least) y && ltb y top)
         (stmt-ruled y q) (stmt-against y q kind)))))
 
-    stmt-test-decided : (v : ℕ) (t : Kind) → eqb (kindAt s at) v ≡ true → fields Trace v ≡ some 3 → (v ≡ 1 → ⊥)
+    stmt-test-decided : (v : ℕ) (t : Kind) → eqb (kindAt s at) v ≡ true → fields Trace (headerVersion s) v ≡ some 3 → (v ≡ 1 → ⊥)
         → stmt top σ stmtBytes ≡ field 2 (drop 1 stmtBytes) (TraceSpec.testAt σ t) → Decided Trace s k at (stmt top σ stmtBytes)
     stmt-test-decided v t e f r q =
         let p = numberOf 2 (drop 1 stmtBytes) in
@@ -357,22 +361,37 @@ module _ (s : List ℕ) (o : All Byte s) (k at : ℕ) (σ : Seen) (w : Knows s k
         (worded Trace s o k at there 3 (fields-known Trace s at v e ∙ f) (omega (arith, rest-length s at there)) (TraceSpec.Test t p)
         (stmt-unruled (λ u. r (sym kind ∙ u))))))
 
+    stmt-known : (v : ℕ) (t : Kind) → v ≡ kindCode t → TraceLaws.Told (σ .bounds) t → eqb (kindAt s at) v ≡ true
+        → fields Trace (headerVersion s) v ≡ some 3 → (v ≡ 1 → ⊥) → Decided Trace s k at (stmt top σ stmtBytes)
+    stmt-known v t c told e f r =
+        stmt-test-decided v t e f r (TraceLaws.kind-test top σ stmtBytes (body-some s at there) t told (kind-known s at there v e ∙ c))
+
     stmt-decided : Decided Trace s k at (stmt top σ stmtBytes)
-    stmt-decided = go (eqb (kindAt s at) 1) refl (eqb (kindAt s at) 2) refl (eqb (kindAt s at) 3) refl
+    stmt-decided =
+        go (eqb (kindAt s at) 1) refl (eqb (kindAt s at) 2) refl (eqb (kindAt s at) 3) refl (eqb (kindAt s at) 4) refl
+        (tellsBound (headerVersion s)) refl
       where
+        unknown : eqb (kindAt s at) 1 ≡ false → knownTest (σ .bounds) (kindAt s at) ≡ false
+            → fieldsAt Trace s at ≡ none → Decided Trace s k at (stmt top σ stmtBytes)
+        unknown e q n =
+            subst TraceRow (sym (TraceLaws.kind-unknown top σ stmtBytes (body-some s at there) (kind-other s at there 1 e)
+            (ap (knownTest (σ .bounds)) (kind-is s at there) ∙ q)))
+            (is-framing (unknown-kind n))
+
         go : (x : Bool) → eqb (kindAt s at) 1 ≡ x → (y : Bool) → eqb (kindAt s at) 2 ≡ y → (z : Bool) → eqb (kindAt s at) 3 ≡ z
+            → (u : Bool) → eqb (kindAt s at) 4 ≡ u → (b : Bool) → tellsBound (headerVersion s) ≡ b
             → Decided Trace s k at (stmt top σ stmtBytes)
-        go true e y f z g = stmt-assign-decided e
-        go false e true f z g =
-            stmt-test-decided 2 Assume f refl (λ q. omega arith)
-            (TraceLaws.kind-assume top σ stmtBytes (body-some s at there) (kind-known s at there 2 f))
-        go false e false f true g =
-            stmt-test-decided 3 Assert g refl (λ q. omega arith)
-            (TraceLaws.kind-assert top σ stmtBytes (body-some s at there) (kind-known s at there 3 g))
-        go false e false f false g =
-            let other = kind-other s at there in
-            subst TraceRow (sym (TraceLaws.kind-unknown top σ stmtBytes (body-some s at there) (other 1 e) (other 2 f) (other 3 g)))
-            (is-framing (unknown-kind (rw (e, f, g))))
+        go true e y f z g u h b t = stmt-assign-decided e
+        go false e true f z g u h b t = stmt-known 2 Assume refl tt f refl (λ q. omega arith)
+        go false e false f true g u h b t = stmt-known 3 Assert refl tt g refl (λ q. omega arith)
+        go false e false f false g true h true t = stmt-known 4 Bound refl (w .tells ∙ t) h (rw t) (λ q. omega arith)
+        go false e false f false g true h false t = unknown e (rw h (w .tells ∙ t)) (rw (e, f, g, t))
+        go false e false f false g false h b t = unknown e (rw (h, f, g)) (rw (e, f, g, h) (other b t))
+          where
+            other : (b : Bool) → tellsBound (headerVersion s) ≡ b
+                → cond {A = Option ℕ} (tellsBound (headerVersion s) && false) (some 3) none ≡ none
+            other true t = rw t
+            other false t = rw t
 
   pub trace-decided : Decided Trace s k at (recordOf (stmt (headerInputs s + 4096) σ) (drop at s))
   trace-decided = decided-by-frame Trace s k at (stmt top σ) stmt-decided
@@ -403,6 +422,7 @@ module _ (s : List ℕ) (k : ℕ) (σ : Seen) (w : Knows s k σ) where
       | no m ↦ let z : i ≡ k = omega arith in subst (λ j. numberAt s (recordAt s j) 3 2 < suc y) (sym z) (omega (arith, r))
     ];
     newest = least-next k (omega arith) q (ap suc r);
+    tells = w .tells;
   }
 
   knows-test : (t : Kind) (p : ℕ) (e : List Token) → (kindAt s at ≡ 1 → ⊥) → Knows s (suc k) (see σ (TraceSpec.Test t p e))
@@ -415,6 +435,7 @@ module _ (s : List ℕ) (k : ℕ) (σ : Seen) (w : Knows s k σ) where
       | no m ↦ absurd (let z : i ≡ k = omega arith in q (subst (λ j. kindAt s (recordAt s j) ≡ 1) z u))
     ];
     newest = later (w .newest);
+    tells = w .tells;
   }
     where
       later : Least s k (σ .least) → Least s (suc k) (σ .least)
@@ -434,5 +455,5 @@ module _ (s : List ℕ) (k : ℕ) (σ : Seen) (w : Knows s k σ) where
       go a (TraceLaws.says-assign e q l m n p) =
           knows-assign (numberOf 2 (drop 1 (bodyAt s at))) (numberOf 2 (drop 3 (bodyAt s at))) e (kind 1 q)
           (number-is s at (found .0) 3 2 (omega (arith, length-is s at (found .0)))) m
-      go a (TraceLaws.says-assume e q l p) = knows-test Assume (numberOf 2 (drop 1 (bodyAt s at))) e (λ u. omega (arith, kind 2 q))
-      go a (TraceLaws.says-assert e q l p) = knows-test Assert (numberOf 2 (drop 1 (bodyAt s at))) e (λ u. omega (arith, kind 3 q))
+      go a (TraceLaws.says-test t e told q l p) =
+          knows-test t (numberOf 2 (drop 1 (bodyAt s at))) e (λ u. no-assign t (sym (kind (kindCode t) q) ∙ u))

@@ -7,7 +7,8 @@ use mathlib.Core.List.{List, []}
 use lib.ListN.{length}
 use lib.Dec.{eqb, leb}
 use Rattle.expr.specs.Eval.{envOf}
-use Rattle.file.specs.Outcome.{Assume, Assert, Bound, Outcome, Ended, Failed, Lost, verdict, placeOf}
+use Rattle.file.specs.Outcome.{Bound}
+use Rattle.file.specs.OutcomeLaws.{no-place}
 use Rattle.file.specs.File.{Head, headerInputs, Input, Accepted, Refused}
 use Rattle.table.specs.declared.Answer as Ran
 use Rattle.table.specs.Table.{Instr, readTable}
@@ -34,17 +35,10 @@ use Rattle.demands.specs.Valuation.{Handed, ranWith, judgedWith}
 use Rattle.demands.specs.Refusals.{RunRest, JudgeRest, TraceRest, SliceRest, TraceGivesRest, SliceGivesRest}
 use Rattle.demands.proofs.ValuationLaws.{wordsIn, ran-words, judged-words}
 
-safe-place : (o : Outcome) → verdict o ≡ 0 → placeOf o ≡ 0
-safe-place Ended h = refl
-safe-place (Failed Assume p) h = refl
-safe-place (Failed Assert p) h = absurd (omega arith)
-safe-place (Failed Bound p) h = refl
-safe-place Lost h = refl
-
 -- ---- running
 
 run-refusal : (r o : ℕ) → RunRest (Running.refusal r o)
-run-refusal r o = record { refused = λ h. (refl, refl, refl); safe = λ h. refl }
+run-refusal r o = record { refused = λ h. (refl, refl, refl); placeless = λ h. refl }
 
 run-words-rest : (table : List ℕ) (K : ℕ) (words : List ℕ) → RunRest (runAnswer table K words)
 unfolding runAnswer
@@ -59,7 +53,7 @@ run-words-rest table K words = go (readTable table)
     go (Refused r o) = run-refusal r o
     go (Accepted head is) =
         chosen (leb K 255) (eqb (length words) (head .inputs)) (Running.answerOf (run is K words))
-        (record { refused = λ h. absurd (h refl); safe = safe-place ((run is K words) .outcome) })
+        (record { refused = λ h. absurd (h refl); placeless = no-place ((run is K words) .outcome) })
 
 pub run-rest : (h : Handed) (table : List ℕ) (K : ℕ) (valuation : List ℕ) → RunRest (ranWith h table K valuation)
 run-rest h table K v = subst⁻¹ RunRest (ran-words h table K v) (run-words-rest table K (wordsIn h (headerInputs table) v))
@@ -67,7 +61,7 @@ run-rest h table K v = subst⁻¹ RunRest (ran-words h table K v) (run-words-res
 -- ---- judging
 
 judge-refusal : (r o : ℕ) → JudgeRest (Judging.refusal r o)
-judge-refusal r o = record { refused = λ h. (refl, refl); safe = λ h. refl }
+judge-refusal r o = record { refused = λ h. (refl, refl); placeless = λ h. refl }
 
 judge-words-rest : (trace words : List ℕ) → JudgeRest (judgeAnswer trace words)
 unfolding judgeAnswer
@@ -81,7 +75,7 @@ judge-words-rest trace words = go (readTrace trace)
     go (Refused r o) = judge-refusal r o
     go (Accepted head ts) =
         chosen (eqb (length words) (head .inputs)) (Judging.answerOf (judge ts (envOf words)))
-        (record { refused = λ h. absurd (h refl); safe = safe-place (judge ts (envOf words)) })
+        (record { refused = λ h. absurd (h refl); placeless = no-place (judge ts (envOf words)) })
 
 pub judge-rest : (h : Handed) (trace valuation : List ℕ) → JudgeRest (judgedWith h trace valuation)
 judge-rest h trace v = subst⁻¹ JudgeRest (judged-words h trace v) (judge-words-rest trace (wordsIn h (headerInputs trace) v))
@@ -108,7 +102,7 @@ trace-empty table K room = go (readTable table)
     go : (x : Input Instr) → ((Unwinding.answered K room x) .reply ≡ 0 → ⊥) → (Unwinding.answered K room x) .bytes ≡ []
     go (Refused r o) h = refl
     go (Accepted head is) h =
-        let ts = unwind Assume (head .inputs) is K in
+        let ts = unwind Bound (head .inputs) is K in
         let bytes = encodeTrace (traceHead (head .inputs)) ts in
         bounded (leb K 255) (Unwinding.traceOf room (head .inputs) ts)
         (fitted (leb (length ts) 4096 && leb (length bytes) 65535) (leb (length bytes) room) bytes) h

@@ -21,7 +21,8 @@ use lib.Dec.{eqb, leb}
 use borrow.Author.Tests.{eqb-true, eqb-false, leb-true, leb-false, le-leb}
 use Rattle.expr.specs.Lists.{All, and-both, both-and}
 use Rattle.expr.specs.Number.{Byte}
-use Rattle.file.specs.Outcome.{Assume, Outcome}
+use Rattle.file.specs.Outcome.{Outcome}
+use Rattle.file.specs.Outcome as Kinds
 use Rattle.file.specs.File.{Head, headerInputs, headerCount, Input, Accepted, Refused}
 use Rattle.file.specs.Shown.{listed}
 use Rattle.table.specs.Table.{Instr, readTable}
@@ -200,7 +201,7 @@ module _ (t : List ℕ) (K room : ℕ) where
 
   -- the trace's statements
   abbrev unwound : List Stmt
-  unwound = unwind Assume (headerInputs t) (listed (readTable t)) K
+  unwound = unwind Kinds.Bound (headerInputs t) (listed (readTable t)) K
 
   -- a trace of these statements and bytes, by the tests for 8, 9 and 10
   abbrev traced : (bytes : List ℕ) (x y z : Bool) → Tracing.Traced
@@ -251,9 +252,9 @@ module _ (t : List ℕ) (K room : ℕ) where
   trace-first (Accepted head is) q clear =
       let inputs = table-inputs t head is q in
       let S = head .inputs in
-      let ts = unwind Assume S is K in
+      let ts = unwind Kinds.Bound S is K in
       let bytes = encodeTrace (traceHead S) ts in
-      let same : unwound ≡ unwind Assume (head .inputs) is K = ap₂ (λ S is. unwind Assume S is K) inputs (ap listed q) in
+      let same : unwound ≡ unwind Kinds.Bound (head .inputs) is K = ap₂ (λ S is. unwind Kinds.Bound S is K) inputs (ap listed q) in
       trace-tested (length ts) bytes (ap length same) (ap₂ (λ S ts. encodeTrace (traceHead S) ts) inputs same) clear (leb K 255) refl
       (leb (length ts) 4096 && leb (length bytes) 65535) refl (leb (length bytes) room) refl
 

@@ -25,7 +25,7 @@ use Rattle.slice.specs.Slice.{slice}
 use Rattle.slice.specs.Answer.{Sliced, sliceAnswer}
 use Rattle.file.specs.File.{headSize, headerInputs, inputsLimit, inputRoom, header}
 use Rattle.table.specs.Table.{isTable}
-use Rattle.trace.specs.Trace.{isTrace, traceVersion}
+use Rattle.trace.specs.Trace.{isTrace, traceVersion, oldVersion, tellsBound}
 
 -- ---- what is asked, and what is answered
 
@@ -60,14 +60,17 @@ answer (Compute left o right) = Word (value (envOf []) (Const left ∷ Const rig
 
 -- ---- answers with reply 0
 
-abbrev pub safe : (backJumps : ℕ) → Told
-safe r = Ran (Rattle.table.specs.Cases.safe r)
+abbrev pub ended : (backJumps : ℕ) → Told
+ended r = Ran (Rattle.table.specs.Cases.ended r)
+
+abbrev pub cut : (backJumps : ℕ) → Told
+cut r = Ran (Rattle.table.specs.Cases.cut r)
 
 abbrev pub unsafeAt : (place backJumps : ℕ) → Told
 unsafeAt p r = Ran (Rattle.table.specs.Cases.unsafeAt p r)
 
-abbrev pub judgedSafe : Told
-judgedSafe = Judged Rattle.trace.specs.Cases.safe
+abbrev pub judgedEnded : Told
+judgedEnded = Judged Rattle.trace.specs.Cases.ended
 
 abbrev pub judgedUnsafeAt : (place : ℕ) → Told
 judgedUnsafeAt p = Judged (Rattle.trace.specs.Cases.unsafeAt p)
@@ -90,12 +93,12 @@ abbrev pub marked : List Case
 marked =
     -- x=0, K=0: unsafe at 3, 0 back jumps
     m 1 (Run smallRule 0 (0 ∷ [])) (unsafeAt 3 0)
-    -- x=1, K=0: safe, 0
-    ∷ m 2 (Run smallRule 0 (1 ∷ [])) (safe 0)
+    -- x=1, K=0: cut, 0 (2026-01; before: safe)
+    ∷ m 2 (Run smallRule 0 (1 ∷ [])) (cut 0)
     -- x=1, K=1: unsafe at 8, 1
     ∷ m 3 (Run smallRule 1 (1 ∷ [])) (unsafeAt 8 1)
-    -- x=2, K=1: safe, 1
-    ∷ m 4 (Run smallRule 1 (2 ∷ [])) (safe 1)
+    -- x=2, K=1: cut, 1 (2026-01; before: safe)
+    ∷ m 4 (Run smallRule 1 (2 ∷ [])) (cut 1)
     -- for K=0 the trace has 6 statements, 156 bytes
     ∷ m 5 (TraceOf smallRule 0) (traced 6 156)
     -- the slice has 102 bytes, mask 1, count 1; its 4 statements are those that the printer shows
@@ -115,12 +118,12 @@ marked =
     -- 2147483648 slt 0 = 1, ult = 0
     ∷ m 10 (Compute 2147483648 Slt 0) (Word 1)
     ∷ m 10 (Compute 2147483648 Ult 0) (Word 0)
-    -- table 01 00 06 00 00 00, K=0: safe; its trace has 2 statements, 43 bytes, and its slice none, 6 bytes
-    ∷ m 11 (Run emptyTable 0 []) (safe 0)
+    -- table 01 00 06 00 00 00, K=0: ended; its trace has 2 statements, 43 bytes, and its slice none, 6 bytes
+    ∷ m 11 (Run emptyTable 0 []) (ended 0)
     ∷ m 11 (TraceOf emptyTable 0) (traced 2 43)
     ∷ m 11 (SliceOf emptyTable 0) (sliced 0 6 0 0)
-    -- 000's example: s1 = s0 + 1, assert s1 ult 10: safe for 5, unsafe for 10; places 0 and 1 are our choice
-    ∷ m 12 (Judge example (5 ∷ [])) judgedSafe
+    -- 000's example: s1 = s0 + 1, assert s1 ult 10: ended for 5, unsafe for 10; places 0 and 1 are our choice
+    ∷ m 12 (Judge example (5 ∷ [])) judgedEnded
     ∷ m 12 (Judge example (10 ∷ [])) (judgedUnsafeAt 1)
     ∷ []
 
@@ -142,6 +145,7 @@ all-hold (m number question told ∷ cs) h = (cc, all-hold cs cc)
 
 pub marked-hold : All Holds marked
 unfolding runAnswer readTable isTable readFile headerReply headSize headerInputs headerCount inputsLimit inputRoom records recordOf frame
-    instr parseFrom readToken operator fits run value unary binary remainderByZero signed judgeAnswer readTrace isTrace traceVersion stmt
+    instr parseFrom readToken operator fits run value unary binary remainderByZero signed judgeAnswer readTrace isTrace traceVersion
+    oldVersion tellsBound stmt
     judge traceAnswer unwind places encode header sliceAnswer slice ones
 marked-hold = all-hold marked refl

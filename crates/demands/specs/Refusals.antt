@@ -1,4 +1,5 @@
--- Document 01, "Numbered replies": a refusal's other numbers are 0 and safe, and its buffer is as it was; a safe verdict has place 0.
+-- Document 01, "Numbered replies": a refusal says ended, its other numbers are 0 and its buffer is as it was; all verdicts but unsafe
+-- have place 0.
 use mathlib.Core.Path.{_≡_}
 use mathlib.Core.List.{List}
 use Prim.Native.Nat.{ℕ}
@@ -13,12 +14,12 @@ use Rattle.kadvitul.specs.Interface.{TraceReply, TraceLength, traceNumber, Slic
 -- running, by `run` or from C
 pub record RunRest (a : Ran.Answer) : Type 0 where
   pub refused : (a .reply ≡ 0 → ⊥) → (a .verdict ≡ 0) × (a .place ≡ 0) × (a .«back_jumps» ≡ 0)
-  pub safe : a .verdict ≡ 0 → a .place ≡ 0
+  pub placeless : (a .verdict ≡ 1 → ⊥) → a .place ≡ 0
 
 -- judging, by `judge` or from C
 pub record JudgeRest (a : Judged.Answer) : Type 0 where
   pub refused : (a .reply ≡ 0 → ⊥) → (a .verdict ≡ 0) × (a .place ≡ 0)
-  pub safe : a .verdict ≡ 0 → a .place ≡ 0
+  pub placeless : (a .verdict ≡ 1 → ⊥) → a .place ≡ 0
 
 -- `write_trace`, with its buffer before and after
 abbrev pub TraceRest : (out out′ : List ℕ) → Written.Answer → Type 0

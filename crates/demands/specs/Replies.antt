@@ -16,11 +16,11 @@ use Rattle.expr.specs.Token.{Token, exprBytes}
 use Rattle.expr.specs.TokenLaws.{Holds}
 use Rattle.expr.specs.Expr.{depthLimit, below}
 use Rattle.expr.specs.ExprLaws.{Ok}
-use Rattle.file.specs.Outcome.{Assume}
+use Rattle.file.specs.Outcome as Outcome
 use Rattle.file.specs.File.{inputsLimit, headerVersion, headerSize, headerTotal, headerInputs, headerCount, headOf}
 use Rattle.file.specs.Shown.{listed}
 use Rattle.table.specs.Table.{isTable, readTable}
-use Rattle.trace.specs.Trace.{isTrace, readTrace, traceHead, encodeTrace}
+use Rattle.trace.specs.Trace.{isTrace, tellsBound, readTrace, traceHead, encodeTrace}
 use Rattle.unwind.specs.Unwind.{unwind}
 use Rattle.slice.specs.Slice.{slice}
 use Rattle.demands.specs.Valuation.{Handed, lengthFor}
@@ -48,10 +48,16 @@ exprAt s at i = take (lengthAt s at - i) (drop (at + (2 + i)) s)
 
 -- ---- what differs between tables and traces
 
--- the bytes of the kind and its fields; an unknown kind has none
-abbrev pub fields : File → (kind : ℕ) → Option ℕ
-fields Table kind = cond (eqb kind 1) (some 2) (cond (eqb kind 2) (some 1) (cond (eqb kind 3) (some 1) (cond (eqb kind 4) (some 3) none)))
-fields Trace kind = cond (eqb kind 1) (some 5) (cond (eqb kind 2) (some 3) (cond (eqb kind 3) (some 3) none))
+-- the bytes of the kind and its fields, by version; an unknown kind has none
+abbrev pub fields : File → (version kind : ℕ) → Option ℕ
+fields Table version kind =
+    cond (eqb kind 1) (some 2) (cond (eqb kind 2) (some 1) (cond (eqb kind 3) (some 1) (cond (eqb kind 4) (some 3) none)))
+fields Trace version kind =
+    cond (eqb kind 1) (some 5)
+    (cond (eqb kind 2) (some 3) (cond (eqb kind 3) (some 3) (cond (tellsBound version && eqb kind 4) (some 3) none)))
+
+abbrev pub fieldsAt : File → List ℕ → (at : ℕ) → Option ℕ
+fieldsAt F s at = fields F (headerVersion s) (kindAt s at)
 
 abbrev pub known : File → (version : ℕ) → Bool
 known Table version = isTable version
@@ -85,8 +91,8 @@ pub data Framing (F : File) (s : List ℕ) (at : ℕ) : Type 0 where
   length-missing : length s < at + 2 → Framing F s at
   passes-the-end : length s < at + (2 + lengthAt s at) → Framing F s at
   length-zero : lengthAt s at ≡ 0 → Framing F s at
-  unknown-kind : fields F (kindAt s at) ≡ none → Framing F s at
-  fields-missing : (m : ℕ) → fields F (kindAt s at) ≡ some m → lengthAt s at < m → Framing F s at
+  unknown-kind : fieldsAt F s at ≡ none → Framing F s at
+  fields-missing : (m : ℕ) → fieldsAt F s at ≡ some m → lengthAt s at < m → Framing F s at
 
 -- 6: a target or an assigned symbol against its rule
 pub data Ruling : (F : File) (s : List ℕ) (k at : ℕ) → Type 0 where
@@ -99,7 +105,7 @@ pub data Ruling : (F : File) (s : List ℕ) (k at : ℕ) → Type 0 where
 
 -- 7: what follows the kind and its fields is no expression
 pub data Wording (F : File) (s : List ℕ) (k at : ℕ) : Type 0 where
-  no-expression : (m : ℕ) → fields F (kindAt s at) ≡ some m → (IsExpr F (mayRead F s k) (exprAt s at m) → ⊥) → Wording F s k at
+  no-expression : (m : ℕ) → fieldsAt F s at ≡ some m → (IsExpr F (mayRead F s k) (exprAt s at m) → ⊥) → Wording F s k at
 
 -- a call, with all that it is given: a valuation as words or as bytes, a buffer by its room
 pub data Call : Type 0 where
@@ -159,7 +165,7 @@ offset s Valuation = 0
 abbrev pub result : Call → List ℕ
 result (Run h t K v) = []
 result (Judge h t v) = []
-result (WriteTrace t K room) = encodeTrace (traceHead (headerInputs t)) (unwind Assume (headerInputs t) (listed (readTable t)) K)
+result (WriteTrace t K room) = encodeTrace (traceHead (headerInputs t)) (unwind Outcome.Bound (headerInputs t) (listed (readTable t)) K)
 result (SliceTrace t room) = encodeTrace (headOf t) (slice (listed (readTrace t)))
 
 -- when a row holds
@@ -180,7 +186,7 @@ When (SliceTrace t room) Bound = ⊥
 When (Run h t K v) Size = ⊥
 When (Judge h t v) Size = ⊥
 When (WriteTrace t K room) Size =
-    (length (unwind Assume (headerInputs t) (listed (readTable t)) K) ≤ 4096) × (length (result (WriteTrace t K room)) ≤ 65535) → ⊥
+    (length (unwind Outcome.Bound (headerInputs t) (listed (readTable t)) K) ≤ 4096) × (length (result (WriteTrace t K room)) ≤ 65535) → ⊥
 When (SliceTrace t room) Size = ⊥
 When (Run h t K v) Room = ⊥
 When (Judge h t v) Room = ⊥

@@ -5,6 +5,7 @@ pub mod RecordLaws
 pub mod WalkLaws
 pub mod ReadingLaws
 pub mod Outcome
+pub mod OutcomeLaws
 pub mod Words
 pub mod WordsLaws
 pub mod Cases

@@ -28,7 +28,7 @@ use Rattle.kadvitul.specs.Interface.{TraceReply, TraceOffset, TraceLengt
 use Rattle.kadvitul.specs.Interface.{SliceReply, SliceOffset, SliceLength, SliceMask, SliceInputs, sliceNumber}
 use Rattle.file.specs.File.{headSize, headerInputs, headerCount, inputsLimit, inputRoom, header}
 use Rattle.table.specs.Table.{isTable}
-use Rattle.trace.specs.Trace.{isTrace, traceVersion}
+use Rattle.trace.specs.Trace.{isTrace, traceVersion, oldVersion, tellsBound}
 
 -- m3; any other length than 4 × S is 11; 8 comes before it
 runs : (runBytes smallRule 1 (0x00 ∷ 0x00 ∷ 0x00 ∷ 0x01 ∷ []) ≡ unsafeAt 8 1) × (runBytes smallRule 1 (0x00 ∷ []) ≡ refusal 11 0)
@@ -40,12 +40,13 @@ unfolding runBytes readTable isTable readFile headerReply headSize headerInputs 
 runs = (refl, refl, refl, refl, refl, refl)
 
 -- m12
-judges : (judgeBytes Judged.example (0x00 ∷ 0x00 ∷ 0x00 ∷ 0x05 ∷ []) ≡ Judged.safe)
+judges : (judgeBytes Judged.example (0x00 ∷ 0x00 ∷ 0x00 ∷ 0x05 ∷ []) ≡ Judged.ended)
     × (judgeBytes Judged.example (0x00 ∷ 0x00 ∷ 0x00 ∷ 0x0A ∷ []) ≡ Judged.unsafeAt 1)
     × (judgeBytes Judged.example (0x0A ∷ []) ≡ Judging.refusal 11 0)
     × (judgeBytes Judged.example (0x00 ∷ 0x00 ∷ 0x00 ∷ 0x05 ∷ 0x00 ∷ []) ≡ Judging.refusal 11 0)
     × (judgeBytes Judged.example (0x00 ∷ 0x00 ∷ 0x00 ∷ 0x05 ∷ 0x00 ∷ 0x00 ∷ 0x00 ∷ 0x05 ∷ []) ≡ Judging.refusal 11 0)
-unfolding judgeBytes readTrace isTrace traceVersion readFile headerReply headSize headerInputs headerCount inputsLimit inputRoom records
+unfolding judgeBytes readTrace isTrace traceVersion oldVersion tellsBound readFile headerReply headSize headerInputs headerCount
+    inputsLimit inputRoom records
     recordOf frame stmt parseFrom readToken operator fits judge value unary binary
 judges = (refl, refl, refl, refl, refl)
 
@@ -93,7 +94,8 @@ judge-numbers : (map (λ w. judgeNumber w (judgeBytes threeTests (0x00 ∷ 0x00 
     (JudgeReply ∷ JudgeOffset ∷ JudgeVerdict ∷ JudgePlace ∷ []) ≡ 0 ∷ 0 ∷ 1 ∷ 11 ∷ [])
     × (map (λ w. judgeNumber w (judgeBytes brokenTrace [])) (JudgeReply ∷ JudgeOffset ∷ JudgeVerdict ∷ JudgePlace ∷ []) ≡ 7 ∷ 14 ∷ 0 ∷ 0
     ∷ [])
-unfolding judgeBytes readTrace isTrace traceVersion readFile headerReply headSize headerInputs headerCount inputsLimit inputRoom records
+unfolding judgeBytes readTrace isTrace traceVersion oldVersion tellsBound readFile headerReply headSize headerInputs headerCount
+    inputsLimit inputRoom records
     recordOf frame stmt parseFrom readToken operator fits judge value unary binary
 judge-numbers = (refl, refl)
 
@@ -110,6 +112,7 @@ slice-numbers : (map (λ w. sliceNumber w (sliceAnswer assumedLast 22))
     (SliceReply ∷ SliceOffset ∷ SliceLength ∷ SliceMask ∷ SliceInputs ∷ []) ≡ 0 ∷ 0 ∷ 22 ∷ 6 ∷ 2 ∷ [])
     × (map (λ w. sliceNumber w (sliceAnswer brokenTrace 22)) (SliceReply ∷ SliceOffset ∷ SliceLength ∷ SliceMask ∷ SliceInputs ∷ []) ≡ 7
     ∷ 14 ∷ 0 ∷ 0 ∷ 0 ∷ [])
-unfolding sliceAnswer readTrace isTrace traceVersion readFile headerReply headSize headerInputs headerCount inputsLimit inputRoom records
+unfolding sliceAnswer readTrace isTrace traceVersion oldVersion tellsBound readFile headerReply headSize headerInputs headerCount
+    inputsLimit inputRoom records
     recordOf frame stmt parseFrom readToken operator fits slice encode header ones
 slice-numbers = (refl, refl)

@@ -31,7 +31,7 @@ use Rattle.show.specs.AnswerLaws.{show-done}
 use Rattle.print_slice.specs.Buffers.{Decides, HoldsEvery}
 use Rattle.file.specs.File.{headSize, headerInputs, headerCount, inputsLimit, inputRoom, header}
 use Rattle.table.specs.Table.{isTable}
-use Rattle.trace.specs.Trace.{isTrace, traceVersion}
+use Rattle.trace.specs.Trace.{isTrace, traceVersion, oldVersion, tellsBound}
 
 -- ---- what is read
 
@@ -108,8 +108,8 @@ many-bytes = (omega arith, (omega arith, (omega arith, (omega arith, (omega arit
 
 many-printed : length (printed manyAsserts) ≡ 75686
 unfolding printed decimal traceAnswer traceVersion sliceAnswer readTable isTable readFile headerReply headSize headerInputs headerCount
-    inputsLimit inputRoom records recordOf frame instr parseFrom readToken operator fits unwind places encode header readTrace isTrace
-    stmt slice
+    inputsLimit inputRoom records recordOf frame instr parseFrom readToken operator fits unwind places encode header
+    readTrace isTrace oldVersion tellsBound stmt slice
 many-printed = refl
 
 pub long-text : (m : ℕ) → HoldsEvery m → 75686 ≤ m

@@ -16,12 +16,12 @@ use Rattle.expr.specs.Expr.{below, parse}
 use Rattle.expr.specs.Shown.{isWhole, tokensOf}
 use Rattle.file.specs.File.{inputRoom, headerVersion, headerSize, headerInputs, headerCount, afterHeader, Good, frame, Read, Input}
 use Rattle.file.specs.File.{Accepted, Refused}
-use Rattle.file.specs.Shown.{isGood, isAccepted, listed, kindOf}
+use Rattle.file.specs.Shown.{isGood, isAccepted, listed}
 use Rattle.file.specs.FileLaws.{inputs-room, head-long, header-is, file-is, framed, record-good, Next, next-record, records-chain}
 use Rattle.file.specs.ReadingLaws.{short}
 use Rattle.trace.specs.Trace.{Stmt, Seen, atFirst, see, stmt, stmtsFrom, stmts, isTrace, readTrace}
 use Rattle.trace.specs.TraceLaws.{symbol-room, Wider, record-wider, wider-after}
-use Rattle.trace.specs.Shown.{symbolRoom, loose, held, exprStart, exprPart, exprOf}
+use Rattle.trace.specs.Shown.{testKind, symbolRoom, loose, held, exprStart, exprPart, exprOf}
 use Rattle.file.specs.RecordLaws.{rest-length}
 use Rattle.trace.proofs.Held.{Held, held-at}
 use Rattle.trace.proofs.Moves.{expr-whole}
@@ -61,11 +61,11 @@ module _ {s : List ℕ} {at : ℕ} (h : Held symbolRoom loose s at) {e : List �
     test-length = let z : exprStart (getD s (at + 2) 0) ≡ 5 = rw (ne-eqb (getD s (at + 2) 0) 1 k) in omega (arith, expr-length)
 
     pub test-line : (p : ℕ) → p ≡ numberOf 2 (drop (at + 3) s)
-        → decimal p ++ (ascii " " ++ ascii (kindName (kindOf (getD s (at + 2) 0)))) ++ exprText
+        → decimal p ++ (ascii " " ++ ascii (kindName (testKind (getD s (at + 2) 0)))) ++ exprText
         (tokensOf (parse Trace (below symbolRoom) e))
         ++ ascii "\n" ≡ lineIn (held (drop at s))
     test-line p a =
-        let n = ascii (kindName (kindOf (getD s (at + 2) 0))) in
+        let n = ascii (kindName (testKind (getD s (at + 2) 0))) in
         ap (λ t. t ++ exprText (tokensOf (parse Trace (below symbolRoom) e)) ++ ascii "\n") (sym (append-snoc (decimal p) 32 n))
         ∙ ap₂ (λ p t. decimal p ++ ascii " " ++ n ++ exprText t ++ ascii "\n") a tokens-are
         ∙ sym (ap lineIn (h .is ∙ ap Good (h .tests k .0)))
@@ -107,14 +107,15 @@ listing-start s out n to o h q l {at} front = subst (λ at. Listing s n out to o
         let few : head .inputs + 4096 ≤ symbolRoom = omega (arith, g .inputs, f .inputs, inputs-room (headerVersion s), symbol-room) in
         record {
           S = S;
-          σ = atFirst S;
+          σ = atFirst head;
           left = ts;
           wide = record {
             higher = few;
             lower = omega arith;
             reads = λ x q. lt-ltb x symbolRoom (omega (arith, ltb-true x S q, few));
+            tells = λ t. refl;
           };
-          read = ap (λ m. stmtsFrom S m (atFirst S) (afterHeader s)) (let z : n - 0 ≡ headerCount s = omega arith in z) ∙ f .read;
+          read = ap (λ m. stmtsFrom S m (atFirst head) (afterHeader s)) (let z : n - 0 ≡ headerCount s = omega arith in z) ∙ f .read;
           wrote = subst (λ xs. Ahead out to (stmtLines ts) out to (stmtLines xs)) (sym (ap listed e)) (ahead-start out to (stmtLines ts));
           inside = g .long;
           few = omega (arith, short isTrace 4096 s o (f .header));
@@ -190,7 +191,7 @@ told s h = go (readTrace s) refl h
         let g = header-is isTrace 4096 s (f .header) in
         let S = head .inputs in
         let k : length ts ≡ headerCount s = records-chain (stmt (S + 4096)) see s (λ σ a. Unit {0}) (λ σ l m a q. tt) (headerCount s)
-        (headerSize s) (atFirst S) ts (f .read) .1 in
+        (headerSize s) (atFirst head) ts (f .read) .1 in
         record {
           long = g .long;
           inputs = omega (arith, g .inputs, inputs-room (headerVersion s));

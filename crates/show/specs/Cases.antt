@@ -19,17 +19,17 @@ use Rattle.write.specs.Decimal.{decimal}
 use Rattle.show.specs.Answer.{refusal, showAnswer}
 use Rattle.file.specs.File.{headSize, headerInputs, headerCount, inputsLimit, inputRoom, header}
 use Rattle.table.specs.Table.{isTable}
-use Rattle.trace.specs.Trace.{isTrace, traceVersion}
+use Rattle.trace.specs.Trace.{isTrace, traceVersion, oldVersion, tellsBound}
 
 -- the whole output for K = 0 and the small rule
 pub small : printed (0 ∷ smallRule) ≡ ascii "inputs 1 statements 4\n"
     ++ ascii "65535 assign s1 0\n"
     ++ ascii "0 assign s2 s1 0 ule s0 zero 3 s1 ite s1 ite\n"
-    ++ ascii "2 assume s2 2 ule 1 zero 1 ite\n"
+    ++ ascii "2 bound s2 2 ule 1 zero 1 ite\n"
     ++ ascii "3 assert s2 3 ule 0 1 ite\n"
 unfolding printed decimal traceAnswer traceVersion sliceAnswer readTable isTable readFile headerReply headSize headerInputs headerCount
-    inputsLimit inputRoom records recordOf frame instr parseFrom readToken operator fits unwind places encode header readTrace isTrace
-    stmt slice
+    inputsLimit inputRoom records recordOf frame instr parseFrom readToken operator fits unwind places encode header
+    readTrace isTrace oldVersion tellsBound stmt slice
 small = refl
 
 -- and for K = 1: nine of its eleven statements are kept
@@ -42,11 +42,11 @@ with-a-back-jump : printed (1 ∷ smallRule)
     ++ ascii "3 assert s4 3 ule 0 1 ite\n"
     ++ ascii "4 assign s5 s4 4 ule 10 s4 ite\n"
     ++ ascii "5 assign s6 s5 5 ule s3 zero 8 s5 ite s5 ite\n"
-    ++ ascii "7 assume s6 7 ule 1 zero 1 ite\n"
+    ++ ascii "7 bound s6 7 ule 1 zero 1 ite\n"
     ++ ascii "8 assert s6 8 ule 0 1 ite\n"
 unfolding printed decimal traceAnswer traceVersion sliceAnswer readTable isTable readFile headerReply headSize headerInputs headerCount
-    inputsLimit inputRoom records recordOf frame instr parseFrom readToken operator fits unwind places encode header readTrace isTrace
-    stmt slice
+    inputsLimit inputRoom records recordOf frame instr parseFrom readToken operator fits unwind places encode header
+    readTrace isTrace oldVersion tellsBound stmt slice
 with-a-back-jump = refl
 
 -- a buffer as long as the text gets it, one that is a byte shorter is refused 10

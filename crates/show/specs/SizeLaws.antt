@@ -154,20 +154,20 @@ printed-small (K ∷ b) o = go (readTable b) refl
   where
     go : (x : Input Instr) → readTable b ≡ x → length (printed (K ∷ b)) ≤ 393210
     go (Refused r at) e = omega (arith, ap length (prints-refusal K b r at e), refusal-small r at)
-    go (Accepted head is) e = limits (decLt 4096 (length (unwind Assume S is K)))
-        (decLt 65535 (length (encodeTrace (traceHead S) (unwind Assume S is K))))
+    go (Accepted head is) e = limits (decLt 4096 (length (unwind Bound S is K)))
+        (decLt 65535 (length (encodeTrace (traceHead S) (unwind Bound S is K))))
       where
         S : ℕ
         S = head .inputs
 
-        limits : Dec (4096 < length (unwind Assume S is K)) → Dec (65535 < length (encodeTrace (traceHead S) (unwind Assume S is K)))
+        limits : Dec (4096 < length (unwind Bound S is K)) → Dec (65535 < length (encodeTrace (traceHead S) (unwind Bound S is K)))
             → length (printed (K ∷ b)) ≤ 393210
         limits (yes h) d =
             omega (arith, ap length (prints-nine K b head is e (omega (arith, o .0)) (λ l. omega (arith, l .0))), refusal-small 9 0)
         limits (no h) (yes k) =
             omega (arith, ap length (prints-nine K b head is e (omega (arith, o .0)) (λ l. omega (arith, l .1))), refusal-small 9 0)
         limits (no h) (no k) =
-            let ts = unwind Assume S is K in
+            let ts = unwind Bound S is K in
             omega (
               arith,
               ap length (prints-slice K b head is e (omega (arith, o .0)) (o .1) (omega arith) (omega arith)),

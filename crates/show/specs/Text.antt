@@ -52,11 +52,10 @@ exprText (t ∷ e) = ascii " " ++ tokenText t ++ exprText e
 
 -- ---- lines
 
--- the bound's test is an Assume
 abbrev pub kindName : Kind → String
 kindName Assume = "assume"
 kindName Assert = "assert"
-kindName Bound = "assume"
+kindName Bound = "bound"
 
 -- place, kind, the assigned symbol for an assign, then the tokens
 abbrev pub stmtLine : Stmt → List ℕ

@@ -12,7 +12,7 @@ use lib.Dec.{leb}
 use borrow.Author.Tests.{ne-eqb, le-leb, lt-leb, leb-true}
 use Rattle.expr.specs.Lists.{All, all-take, both-and}
 use Rattle.expr.specs.Number.{Byte}
-use Rattle.file.specs.Outcome.{Assume}
+use Rattle.file.specs.Outcome.{Bound}
 use Rattle.file.specs.File.{Head, headerVersion, Input, Accepted, Refused}
 use Rattle.file.specs.FileLaws.{file-refused, file-is}
 use Rattle.file.specs.ReadingLaws.{short, too-long}
@@ -46,7 +46,7 @@ module _ (K : ℕ) (b : List ℕ) (head : Head) (is : List Instr) (accepted : re
 
   -- the trace's statements, and their bytes
   abbrev ts : List Stmt
-  ts = unwind Assume S is K
+  ts = unwind Bound S is K
 
   abbrev bytes : List ℕ
   bytes = encodeTrace (traceHead S) ts
@@ -72,8 +72,8 @@ module _ (K : ℕ) (b : List ℕ) (head : Head) (is : List Instr) (accepted : re
       go false y e = refl
 
   -- a trace over its limits is refused 9
-  pub prints-nine : ((length (unwind Assume (head .inputs) is K) ≤ 4096)
-      × (length (encodeTrace (traceHead (head .inputs)) (unwind Assume (head .inputs) is K)) ≤ 65535) → ⊥)
+  pub prints-nine : ((length (unwind Bound (head .inputs) is K) ≤ 4096)
+      × (length (encodeTrace (traceHead (head .inputs)) (unwind Bound (head .inputs) is K)) ≤ 65535) → ⊥)
       → printed (K ∷ b) ≡ refusalText 9 0
   unfolding printed
   prints-nine n =
@@ -87,13 +87,13 @@ module _ (K : ℕ) (b : List ℕ) (head : Head) (is : List Instr) (accepted : re
       over-limit true e false f = refl
       over-limit false e y f = refl
 
-  module _ (o : All Byte b) (count : length (unwind Assume (head .inputs) is K) ≤ 4096)
-      (total : length (encodeTrace (traceHead (head .inputs)) (unwind Assume (head .inputs) is K)) ≤ 65535) where
+  module _ (o : All Byte b) (count : length (unwind Bound (head .inputs) is K) ≤ 4096)
+      (total : length (encodeTrace (traceHead (head .inputs)) (unwind Bound (head .inputs) is K)) ≤ 65535) where
     table : IsTable b S is
     table = table-ok b head is o accepted
 
     -- else the text is that of the slice of the unwound table
-    pub prints-slice : printed (K ∷ b) ≡ sliceText (head .inputs) (slice (unwind Assume (head .inputs) is K))
+    pub prints-slice : printed (K ∷ b) ≡ sliceText (head .inputs) (slice (unwind Bound (head .inputs) is K))
     unfolding printed
     prints-slice =
         ap tracedText
@@ -119,8 +119,8 @@ trace-room b K room h = go (readTable b) refl
         let S = head .inputs in
         elim (decLt 255 K) [
           | yes l ↦
-              ap (λ x. cond x (Tracing.traceOf room S (unwind Assume S is K)) (Tracing.refusal 8 0)) (lt-leb K 255 l)
-              ∙ sym (ap (λ x. cond x (Tracing.traceOf 65535 S (unwind Assume S is K)) (Tracing.refusal 8 0)) (lt-leb K 255 l))
+              ap (λ x. cond x (Tracing.traceOf room S (unwind Bound S is K)) (Tracing.refusal 8 0)) (lt-leb K 255 l)
+              ∙ sym (ap (λ x. cond x (Tracing.traceOf 65535 S (unwind Bound S is K)) (Tracing.refusal 8 0)) (lt-leb K 255 l))
           | no l ↦
               sym (ap (answered K room) e) ∙ traced K b head is e (omega arith) room h
               ∙ sym (traced K b head is e (omega arith) 65535 (omega arith)) ∙ ap (answered K 65535) e

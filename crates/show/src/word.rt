@@ -11,8 +11,7 @@ ghost use Rattle.expr.specs.declared.File.the-variants.{Trace};
 ghost use Rattle.expr.specs.Token.{readToken};
 ghost use Rattle.expr.specs.Expr.{below, parse};
 ghost use Rattle.expr.specs.Shown.{popsOf, isWhole, tokensOf, sizeOf, Stands};
-ghost use Rattle.file.specs.Shown.{kindOf};
-ghost use Rattle.trace.specs.Shown.{symbolRoom};
+ghost use Rattle.trace.specs.Shown.{testKind, symbolRoom};
 ghost use Rattle.write.specs.Splice.{Wrote};
 ghost use Rattle.write.specs.Ascii.{ascii};
 ghost use Rattle.show.specs.Text.{kindName, exprText, refusalText};
@@ -32,10 +31,13 @@ pub fn put_refusal(reply: u32, offset: u32, out: &mut [u8]) -> usize
 // A test's kind, after a space.
 pub fn put_kind(kind: u8, out: &mut [u8], at: usize) -> usize
     requires { ⌜ at + 7 < 2 ^ 64 ⌝ }
-    ensures { λ r. ⌜ Wrote (now (out .entry)) at (ascii " " ++ ascii (kindName (kindOf kind))) (now (out .exit)) r × (r ≤ at + 7) ⌝ }
+    ensures { λ r. ⌜ Wrote (now (out .entry)) at (ascii " " ++ ascii (kindName (testKind kind))) (now (out .exit)) r × (r ≤ at + 7) ⌝ }
 {
     if kind == 3 {
         return write::fit_part(b" assert", out, at);
+    }
+    if kind == 4 {
+        return write::fit_part(b" bound", out, at);
     }
     write::fit_part(b" assume", out, at)
 }

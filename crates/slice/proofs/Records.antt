@@ -17,12 +17,12 @@ use Rattle.expr.specs.Eval.{reads}
 use Rattle.expr.specs.Shown.{tokensOf}
 use Rattle.file.specs.Outcome.{Assume, Assert, Bound}
 use Rattle.file.specs.File.{Body, Good, Bad, frame, recordBytes}
-use Rattle.file.specs.Shown.{kindOf, restOf}
+use Rattle.file.specs.Shown.{restOf}
 use Rattle.file.specs.RecordLaws.{read-body, body-length}
 use Rattle.file.specs.EncodeLaws.{record-same}
 use Rattle.trace.specs.Trace.{Stmt, Assign, Test, see, stmt, stmtBytes}
 use Rattle.trace.specs.EncodeLaws.{stmt-same}
-use Rattle.trace.specs.Shown.{symbolRoom, loose, held, exprPart, exprOf}
+use Rattle.trace.specs.Shown.{testKind, symbolRoom, loose, held, exprPart, exprOf}
 use Rattle.trace.proofs.Held.{Held}
 use Rattle.trace.proofs.Moves.{expr-whole}
 use Rattle.slice.specs.declared.back.Kept.{Kept}
@@ -43,7 +43,7 @@ module _ {s : List ℕ} {at : ℕ} (h : Held symbolRoom loose s at) where
   assign-is k = h .is ∙ ap Good (h .assigns k .0)
 
   test-is : (getD s (at + 2) 0 ≡ 1 → ⊥) → held (drop at s)
-      ≡ Good (Test (kindOf (getD s (at + 2) 0)) (numberOf 2 (drop (at + 3) s)) (exprOf (h .statement)))
+      ≡ Good (Test (testKind (getD s (at + 2) 0)) (numberOf 2 (drop (at + 3) s)) (exprOf (h .statement)))
   test-is n = h .is ∙ ap Good (h .tests n .0)
 
   -- ---- whether it is kept
@@ -57,20 +57,27 @@ module _ {s : List ℕ} {at : ℕ} (h : Held symbolRoom loose s at) where
     keeps-assert k = sym (ap (keepIn asserts needed) (test-is (λ z. omega arith)) ∙ rw (eq-eqb (getD s (at + 2) 0) 3 k))
 
     pub keeps-assume : (getD s (at + 2) 0 ≡ 1 → ⊥) → (getD s (at + 2) 0 ≡ 3 → ⊥) → asserts ≡ keepIn asserts needed (held (drop at s))
-    keeps-assume m n = sym (ap (keepIn asserts needed) (test-is m) ∙ rw (ne-eqb (getD s (at + 2) 0) 3 n))
+    keeps-assume m n = sym (ap (keepIn asserts needed) (test-is m)
+        ∙ rw (ne-eqb (getD s (at + 2) 0) 3 n) (other (eqb (getD s (at + 2) 0) 4)))
+      where
+        other : (x : Bool) → isAssert (cond x Bound Assume) || asserts ≡ asserts
+        other true = refl
+        other false = refl
 
   asserts-is : assertsIn (held (drop at s)) ≡ eqb (getD s (at + 2) 0) 3
   asserts-is = go (eqb (getD s (at + 2) 0) 1) refl
     where
-      by-code : (x : Bool) → isAssert (cond x Assert Assume) ≡ x
-      by-code true = refl
-      by-code false = refl
+      by-code : (x y : Bool) → isAssert (cond x Assert (cond y Bound Assume)) ≡ x
+      by-code true y = refl
+      by-code false true = refl
+      by-code false false = refl
 
       go : (x : Bool) → eqb (getD s (at + 2) 0) 1 ≡ x → assertsIn (held (drop at s)) ≡ eqb (getD s (at + 2) 0) 3
       go true e =
           let k = eqb-true (getD s (at + 2) 0) 1 e in
           ap assertsIn (assign-is k) ∙ sym (ne-eqb (getD s (at + 2) 0) 3 (λ z. omega arith))
-      go false e = ap assertsIn (test-is (eqb-false (getD s (at + 2) 0) 1 e)) ∙ by-code (eqb (getD s (at + 2) 0) 3)
+      go false e = ap assertsIn (test-is (eqb-false (getD s (at + 2) 0) 1 e))
+          ∙ by-code (eqb (getD s (at + 2) 0) 3) (eqb (getD s (at + 2) 0) 4)
 
   -- ---- what it reads
 

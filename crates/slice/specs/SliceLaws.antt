@@ -1,16 +1,16 @@
--- A slice has its trace's verdict and place, in any environment that agrees on what the slice reads; the slice of an accepted trace is
--- accepted; and slicing a slice changes nothing.
+-- A slice is unsafe exactly if its trace is, and at its place, in any environment that agrees on what the slice reads; the slice of an
+-- accepted trace is accepted; and slicing a slice changes nothing.
 --
 -- Why dropping is right. Walk the trace from its last statement back. An Assign is dropped only if its symbol is not needed: no kept
--- statement behind it reads that symbol, so whatever it stores, the kept statements see the same values. An Assume (the bound's test is
--- one) is dropped only if no Assert follows it: then nothing behind it can fail an Assert, and the rest is safe whether the Assume holds
--- or not. Every Assert is kept, and what a kept statement reads is needed: so in two environments that agree on what the slice reads, a
+-- statement behind it reads that symbol, so whatever it stores, the kept statements see the same values. An Assume, or a test of
+-- the bound, is dropped only if no Assert follows it: then nothing behind it can fail an Assert, and the rest is not unsafe whether the
+-- test holds or not. Every Assert is kept, and what a kept statement reads is needed: so in two environments that agree on what the slice reads, a
 -- kept statement has one value, and trace and slice go on alike or fail alike. What is left is well formed: a kept statement reads
 -- inputs, or symbols whose Assign is kept because it reads them, and the assigned symbols still rise. A slice has an Assert
 -- exactly if its trace has one, so each kept statement is kept again, and slicing a slice changes nothing.
 use Prim.Native.Nat.{ℕ, suc, _+_, _≤_, _<_}
 use native.Mathlib.Omega.{arith}
-use mathlib.Core.Path.{_≡_, refl, sym, ap, _∙_}
+use mathlib.Core.Path.{_≡_, refl, sym, ap, _∙_, subst}
 use mathlib.Core.Bool.{Bool, true, false, cond, _||_}
 use mathlib.Core.Logic.{_↔_}
 use mathlib.Core.List.{List, [], _∷_}
@@ -25,14 +25,15 @@ use Rattle.expr.specs.Expr.{after, readsOnly}
 use Rattle.expr.specs.ExprLaws.{Ok, fits-is, is-fits}
 use Rattle.expr.specs.Eval.{Env, update, value, readsToken, reads}
 use Rattle.expr.specs.EvalLaws.{value-agree}
-use Rattle.file.specs.Outcome.{Kind, Assume, Assert, Bound, Outcome, Ended, Failed, Lost, verdict, placeOf}
+use Rattle.file.specs.Outcome.{Kind, Assert, Failed, unsafe, placeOf}
+use Rattle.file.specs.OutcomeLaws.{unsafe-is}
 use Rattle.file.specs.File.{Head, inputsLimit, headerVersion, Input, Accepted, Refused, recordBytes, recordsBytes}
 use Rattle.file.specs.EncodeLaws.{encode-length}
 use Rattle.file.specs.FileLaws.{header-is, file-is, file-refused-positive}
 use Rattle.file.specs.ReadingLaws.{short}
 use Rattle.trace.specs.Trace.{Stmt, Assign, Test, Seen, atFirst, see, stmt, stmts, isTrace, readTrace, stmtBytes, encodeTrace}
 use Rattle.trace.specs.Trace.{readsTrace}
-use Rattle.trace.specs.TraceLaws.{stmt-low}
+use Rattle.trace.specs.TraceLaws.{Told, stmt-low}
 use Rattle.trace.specs.WellFormed.{StmtsOk, trace-ok}
 use Rattle.trace.specs.EncodeLaws.{encode-read, read-encode}
 use Rattle.trace.specs.Judge.{judge}
@@ -61,7 +62,7 @@ agree-unread ts σ τ x v n h y q = go (eqb y x) refl
     go true e = let z : _≡_ {A = Bool} true false = sym q ∙ ap (λ k. readsTrace k ts) (eqb-true y x e) ∙ n in cc
     go false e = h y q
 
--- ---- verdict and place
+-- ---- unsafe or not, and place
 
 module _ (ts : List Stmt) (ih : (σ τ : Env) → Agree (slice ts) σ τ → Alike (judge ts σ) (judge (slice ts) τ)) (σ τ : Env) where
   assign-alike : (p x : ℕ) (e : List Token) (b : Bool) → readsTrace x (slice ts) ≡ b
@@ -87,27 +88,20 @@ module _ (ts : List Stmt) (ih : (σ τ : Env) → Agree (slice ts) σ τ → Ali
       let on = ih τ τ (λ y r. refl) in
       (safe .0 ∙ sym (rest .0) ∙ on .0, safe .1 ∙ sym (rest .1) ∙ on .1)
 
-pub slice-verdict : (ts : List Stmt) (σ τ : Env) → ((x : ℕ) → readsTrace x (slice ts) ≡ true → σ x ≡ τ x)
-    → (verdict (judge ts σ) ≡ verdict (judge (slice ts) τ)) × (placeOf (judge ts σ) ≡ placeOf (judge (slice ts) τ))
+pub slice-alike : (ts : List Stmt) (σ τ : Env) → ((x : ℕ) → readsTrace x (slice ts) ≡ true → σ x ≡ τ x)
+    → Alike (judge ts σ) (judge (slice ts) τ)
 unfolding slice judge
-slice-verdict [] σ τ h = (refl, refl)
-slice-verdict (Assign p x e ∷ ts) σ τ h = assign-alike ts (slice-verdict ts) σ τ p x e (readsTrace x (slice ts)) refl h
-slice-verdict (Test k p e ∷ ts) σ τ h = test-alike ts (slice-verdict ts) σ τ k p e (isAssert k || hasAssert ts) refl h
-
-unsafe-is : (o : Outcome) (p : ℕ) → verdict o ≡ 1 → placeOf o ≡ p → o ≡ Failed Assert p
-unsafe-is Ended p h q = absurd (omega arith)
-unsafe-is (Failed Assume r) p h q = absurd (omega arith)
-unsafe-is (Failed Assert r) p h q = ap (Failed Assert) q
-unsafe-is (Failed Bound r) p h q = absurd (omega arith)
-unsafe-is Lost p h q = absurd (omega arith)
+slice-alike [] σ τ h = (refl, refl)
+slice-alike (Assign p x e ∷ ts) σ τ h = assign-alike ts (slice-alike ts) σ τ p x e (readsTrace x (slice ts)) refl h
+slice-alike (Test k p e ∷ ts) σ τ h = test-alike ts (slice-alike ts) σ τ k p e (isAssert k || hasAssert ts) refl h
 
 -- a trace is unsafe at a place exactly if its slice is
 pub slice-unsafe : (ts : List Stmt) (σ τ : Env) (p : ℕ) → ((x : ℕ) → readsTrace x (slice ts) ≡ true → σ x ≡ τ x)
     → (judge ts σ ≡ Failed Assert p) ↔ (judge (slice ts) τ ≡ Failed Assert p)
 slice-unsafe ts σ τ p h =
-    let v = slice-verdict ts σ τ h in (
-      λ q. unsafe-is (judge (slice ts) τ) p (sym (v .0) ∙ ap verdict q) (sym (v .1) ∙ ap placeOf q),
-      λ q. unsafe-is (judge ts σ) p (v .0 ∙ ap verdict q) (v .1 ∙ ap placeOf q),
+    let v = slice-alike ts σ τ h in (
+      λ q. unsafe-is (judge (slice ts) τ) (sym (v .0) ∙ ap unsafe q) ∙ ap (Failed Assert) (sym (v .1) ∙ ap placeOf q),
+      λ q. unsafe-is (judge ts σ) (v .0 ∙ ap unsafe q) ∙ ap (Failed Assert) (v .1 ∙ ap placeOf q),
     )
 
 -- ---- well formed
@@ -137,12 +131,14 @@ ok-cover may might limit d z (t ∷ e) h o =
 -- τ allows what σ does, of the symbols that the trace reads
 record Covers (ts : List Stmt) (σ τ : Seen) : Type 0 where
   lower : τ .least ≤ σ .least
+  tells : σ .bounds ≡ τ .bounds
   readable : (x : ℕ) → readsTrace x ts ≡ true → σ .readable x ≡ true → τ .readable x ≡ true
 
 module _ (ts : List Stmt) (σ τ : Seen) (p x : ℕ) (e : List Token) where
   covers-assign : Covers (Assign p x e ∷ ts) σ τ → Covers ts (see σ (Assign p x e)) (see τ (Assign p x e))
   covers-assign c = record {
     lower = omega arith;
+    tells = c .tells;
     readable =
         λ y r k. or-cases (eqb y x) (σ .readable y) (or-left _ (τ .readable y))
         (λ q. or-right (eqb y x) _ (c .readable y (or-right (reads y e) _ r) q)) k;
@@ -151,6 +147,7 @@ module _ (ts : List Stmt) (σ τ : Seen) (p x : ℕ) (e : List Token) where
   covers-unread : readsTrace x ts ≡ false → σ .least ≤ x → Covers ts σ τ → Covers ts (see σ (Assign p x e)) τ
   covers-unread n l c = record {
     lower = omega (arith, c .lower);
+    tells = c .tells;
     readable = λ y r k.
         or-cases (eqb y x) (σ .readable y) (λ q. let z : _≡_ {A = Bool} true false = sym r ∙ ap (λ k. readsTrace k ts) (eqb-true y x q)
         ∙ n in cc) (c .readable y r) k;
@@ -177,8 +174,12 @@ module _ (S : ℕ) (ts : List Stmt) (ih : (σ τ : Seen) → Covers (slice ts) �
   test-ok : (k : Kind) (p : ℕ) (e : List Token) (b : Bool) → Covers (cond b (Test k p e ∷ slice ts) (slice ts)) σ τ
       → StmtsOk S σ (Test k p e ∷ ts) → StmtsOk S τ (cond b (Test k p e ∷ slice ts) (slice ts))
   test-ok k p e true c ((a, t, o), os) = (
-    (a, t, (ok-cover (σ .readable) (τ .readable) 17 0 1 e (λ y r. c .readable y (or-left _ (readsTrace y (slice ts)) r)) (o .0), o .1)),
-    ih σ τ (record { lower = c .lower; readable = λ y r. c .readable y (or-right (reads y e) _ r) }) os,
+    (
+      a,
+      subst (λ b. Told b k) (c .tells) t,
+      (ok-cover (σ .readable) (τ .readable) 17 0 1 e (λ y r. c .readable y (or-left _ (readsTrace y (slice ts)) r)) (o .0), o .1),
+    ),
+    ih σ τ (record { lower = c .lower; tells = c .tells; readable = λ y r. c .readable y (or-right (reads y e) _ r) }) os,
   )
   test-ok k p e false c (o, os) = ih σ τ c os
 
@@ -188,8 +189,9 @@ slice-covers S [] σ τ c o = tt
 slice-covers S (Assign p x e ∷ ts) σ τ c o = assign-ok S ts (slice-covers S ts) σ τ p x e (readsTrace x (slice ts)) refl c o
 slice-covers S (Test k p e ∷ ts) σ τ c o = test-ok S ts (slice-covers S ts) σ τ k p e (isAssert k || hasAssert ts) c o
 
-pub slice-ok : (S : ℕ) (ts : List Stmt) → StmtsOk S (atFirst S) ts → StmtsOk S (atFirst S) (slice ts)
-slice-ok S ts o = slice-covers S ts (atFirst S) (atFirst S) (record { lower = omega arith; readable = λ x r k. k }) o
+pub slice-ok : (head : Head) (ts : List Stmt) → StmtsOk (head .inputs) (atFirst head) ts → StmtsOk (head .inputs) (atFirst head) (slice ts)
+slice-ok head ts o =
+    slice-covers (head .inputs) ts (atFirst head) (atFirst head) (record { lower = omega arith; tells = refl; readable = λ x r k. k }) o
 
 -- ---- no longer, and accepted
 
@@ -223,11 +225,11 @@ slice-fits head ts =
 
 -- the slice of a well-formed trace within the limits, written and read again, is itself
 pub slice-read : (head : Head) (ts : List Stmt) → isTrace (head .version) ≡ true → head .inputs ≤ inputsLimit (head .version)
-    → length ts ≤ 4096 → length (encodeTrace head ts) ≤ 65535 → StmtsOk (head .inputs) (atFirst (head .inputs)) ts
+    → length ts ≤ 4096 → length (encodeTrace head ts) ≤ 65535 → StmtsOk (head .inputs) (atFirst head) ts
     → readTrace (encodeTrace head (slice ts)) ≡ Accepted head (slice ts)
 slice-read head ts known few count total o =
     read-encode head (slice ts) known few (omega (arith, slice-shorter ts)) (omega (arith, slice-fits head ts))
-    (slice-ok (head .inputs) ts o)
+    (slice-ok head ts o)
 
 pub slice-accepted : (s : List ℕ) (head : Head) (ts : List Stmt) → All Byte s → readTrace s ≡ Accepted head ts
     → readTrace (encodeTrace head (slice ts)) ≡ Accepted head (slice ts)
@@ -286,7 +288,7 @@ slice-slice (t ∷ ts) = go (keep t ts (slice ts)) refl (slice-slice ts)
 refused-positive : (s : List ℕ) (r at : ℕ) → readTrace s ≡ Refused r at → 0 < r
 unfolding readTrace
 refused-positive s =
-    file-refused-positive isTrace 4096 (λ head n. stmt (head .inputs + 4096)) see (λ head. atFirst (head .inputs))
+    file-refused-positive isTrace 4096 (λ head n. stmt (head .inputs + 4096)) see atFirst
     (λ head n. stmt-low (head .inputs + 4096)) s
 
 -- slicing a slice's bytes answers as slicing the trace's

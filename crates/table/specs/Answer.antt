@@ -11,7 +11,7 @@ use Rattle.table.specs.declared.Answer.{Answer}
 use Rattle.table.specs.Table.{Instr, readTable}
 use Rattle.table.specs.Run.{Ran, run}
 
--- a refusal's other numbers are 0 and safe
+-- a refusal says ended, and its other numbers are 0
 abbrev pub refusal : (reply offset : ℕ) → Answer
 refusal reply offset = record { reply = reply; offset = offset; verdict = 0; place = 0; «back_jumps» = 0 }
 

@@ -1,5 +1,5 @@
 -- The back jumps of a run, counted once more: not on the way, but over the list of the instructions that the run comes to. Every run, be it
--- ended, failed or stopped by the bound, answers that count; and of a table that is read it is at most K for all its loops together.
+-- ended, failed, stopped or cut, answers that count; and of a table that is read it is at most K for all its loops together.
 use Prim.Native.Nat.{ℕ, zero, suc, _+_, _*_, _≤_}
 use native.Mathlib.Omega.{arith}
 use mathlib.Core.Path.{_≡_, refl, subst}

@@ -25,8 +25,14 @@ smallRule =
     ∷ 0x00 ∷ 0x08 ∷ 0x04 ∷ 0x00 ∷ 0x00 ∷ 0x01 ∷ 0x00 ∷ 0x00 ∷ 0x00 ∷ 0x01
     ∷ 0x00 ∷ 0x06 ∷ 0x03 ∷ 0x01 ∷ 0x00 ∷ 0x00 ∷ 0x00 ∷ 0x00 ∷ []
 
-abbrev pub safe : (backJumps : ℕ) → Answer
-safe r = record { reply = 0; offset = 0; verdict = 0; place = 0; «back_jumps» = r }
+abbrev pub ended : (backJumps : ℕ) → Answer
+ended r = record { reply = 0; offset = 0; verdict = 0; place = 0; «back_jumps» = r }
+
+abbrev pub stopped : (backJumps : ℕ) → Answer
+stopped r = record { reply = 0; offset = 0; verdict = 2; place = 0; «back_jumps» = r }
+
+abbrev pub cut : (backJumps : ℕ) → Answer
+cut r = record { reply = 0; offset = 0; verdict = 3; place = 0; «back_jumps» = r }
 
 abbrev pub unsafeAt : (place backJumps : ℕ) → Answer
 unsafeAt p r = record { reply = 0; offset = 0; verdict = 1; place = p; «back_jumps» = r }
@@ -36,7 +42,7 @@ unfolding runAnswer readTable isTable readFile headerReply headSize headerInputs
     instr parseFrom readToken operator fits run value unary binary
 m1 = refl
 
-pub m2 : runAnswer smallRule 0 (1 ∷ []) ≡ safe 0
+pub m2 : runAnswer smallRule 0 (1 ∷ []) ≡ cut 0
 unfolding runAnswer readTable isTable readFile headerReply headSize headerInputs headerCount inputsLimit inputRoom records recordOf frame
     instr parseFrom readToken operator fits run value unary binary
 m2 = refl
@@ -46,12 +52,12 @@ unfolding runAnswer readTable isTable readFile headerReply headSize headerInputs
     instr parseFrom readToken operator fits run value unary binary
 m3 = refl
 
-pub m4 : runAnswer smallRule 1 (2 ∷ []) ≡ safe 1
+pub m4 : runAnswer smallRule 1 (2 ∷ []) ≡ cut 1
 unfolding runAnswer readTable isTable readFile headerReply headSize headerInputs headerCount inputsLimit inputRoom records recordOf frame
     instr parseFrom readToken operator fits run value unary binary
 m4 = refl
 
-pub m11 : runAnswer (0x01 ∷ 0x00 ∷ 0x06 ∷ 0x00 ∷ 0x00 ∷ 0x00 ∷ []) 0 [] ≡ safe 0
+pub m11 : runAnswer (0x01 ∷ 0x00 ∷ 0x06 ∷ 0x00 ∷ 0x00 ∷ 0x00 ∷ []) 0 [] ≡ ended 0
 unfolding runAnswer readTable isTable readFile headerReply headSize headerInputs headerCount inputsLimit inputRoom records run
 m11 = refl
 
@@ -106,12 +112,12 @@ faults = (refl, refl, refl)
 
 -- a self jump is a back jump: (0) if 1 go to 0
 self-jump : runAnswer (0x01 ∷ 0x00 ∷ 0x10 ∷ 0x00 ∷ 0x00 ∷ 0x01 ∷ 0x00 ∷ 0x08 ∷ 0x04 ∷ 0x00 ∷ 0x00 ∷ 0x01 ∷ 0x00 ∷ 0x00 ∷ 0x00 ∷ 0x01 ∷ [])
-    7 [] ≡ safe 7
+    7 [] ≡ cut 7
 unfolding runAnswer readTable isTable readFile headerReply headSize headerInputs headerCount inputsLimit inputRoom records recordOf frame
     instr parseFrom readToken operator fits run value
 self-jump = refl
 
--- (0) assert x; (1) assume y; (2) assert 0, for x and y: any word but zero is true, a false Assume ends the run safe, a false Assert
+-- (0) assert x; (1) assume y; (2) assert 0, for x and y: any word but zero is true, a false Assume stops the run, a false Assert is
 -- unsafe at its place
 abbrev tested : List ℕ
 tested =
@@ -120,7 +126,7 @@ tested =
     ∷ 0x00 ∷ 0x03 ∷ 0x02 ∷ 0x02 ∷ 0x01
     ∷ 0x00 ∷ 0x06 ∷ 0x03 ∷ 0x01 ∷ 0x00 ∷ 0x00 ∷ 0x00 ∷ 0x00 ∷ []
 
-tests : (runAnswer tested 3 (0 ∷ 0 ∷ []) ≡ unsafeAt 0 0) × (runAnswer tested 3 (2 ∷ 0 ∷ []) ≡ safe 0)
+tests : (runAnswer tested 3 (0 ∷ 0 ∷ []) ≡ unsafeAt 0 0) × (runAnswer tested 3 (2 ∷ 0 ∷ []) ≡ stopped 0)
     × (runAnswer tested 3 (2147483648 ∷ 2 ∷ []) ≡ unsafeAt 2 0)
 unfolding runAnswer readTable isTable readFile headerReply headSize headerInputs headerCount inputsLimit inputRoom records recordOf frame
     instr parseFrom readToken operator fits run value
@@ -133,7 +139,7 @@ leaps =
     ∷ 0x00 ∷ 0x05 ∷ 0x04 ∷ 0x00 ∷ 0x02 ∷ 0x02 ∷ 0x00
     ∷ 0x00 ∷ 0x06 ∷ 0x03 ∷ 0x01 ∷ 0x00 ∷ 0x00 ∷ 0x00 ∷ 0x00 ∷ []
 
-to-the-end : (runAnswer leaps 0 (1 ∷ []) ≡ safe 0) × (runAnswer leaps 0 (0 ∷ []) ≡ unsafeAt 1 0)
+to-the-end : (runAnswer leaps 0 (1 ∷ []) ≡ ended 0) × (runAnswer leaps 0 (0 ∷ []) ≡ unsafeAt 1 0)
 unfolding runAnswer readTable isTable readFile headerReply headSize headerInputs headerCount inputsLimit inputRoom records recordOf frame
     instr parseFrom readToken operator fits run value
 to-the-end = (refl, refl)
@@ -148,10 +154,10 @@ leaves =
     ∷ 0x00 ∷ 0x0A ∷ 0x01 ∷ 0x00 ∷ 0x02 ∷ 0x00 ∷ 0x01 ∷ 0x00 ∷ 0x00 ∷ 0x00 ∷ 0x01 ∷ 0x21
     ∷ 0x00 ∷ 0x08 ∷ 0x04 ∷ 0x00 ∷ 0x00 ∷ 0x01 ∷ 0x00 ∷ 0x00 ∷ 0x00 ∷ 0x01 ∷ []
 
--- fewer than K; just K; and stopped by the bound
-ends-through-target-n : (runAnswer leaves 7 (0 ∷ []) ≡ safe 0) × (runAnswer leaves 7 (1 ∷ []) ≡ safe 1)
-    × (runAnswer leaves 7 (2 ∷ []) ≡ safe 2) × (runAnswer leaves 7 (3 ∷ []) ≡ safe 3) × (runAnswer leaves 3 (3 ∷ []) ≡ safe 3)
-    × (runAnswer leaves 2 (3 ∷ []) ≡ safe 2) × (runAnswer leaves 0 (1 ∷ []) ≡ safe 0)
+-- fewer than K; just K; and cut by the bound
+ends-through-target-n : (runAnswer leaves 7 (0 ∷ []) ≡ ended 0) × (runAnswer leaves 7 (1 ∷ []) ≡ ended 1)
+    × (runAnswer leaves 7 (2 ∷ []) ≡ ended 2) × (runAnswer leaves 7 (3 ∷ []) ≡ ended 3) × (runAnswer leaves 3 (3 ∷ []) ≡ ended 3)
+    × (runAnswer leaves 2 (3 ∷ []) ≡ cut 2) × (runAnswer leaves 0 (1 ∷ []) ≡ cut 0)
 unfolding runAnswer readTable isTable readFile headerReply headSize headerInputs headerCount inputsLimit inputRoom records recordOf frame
     instr parseFrom readToken operator fits run value unary binary
 ends-through-target-n = (refl, refl, refl, refl, refl, refl, refl)
@@ -163,9 +169,9 @@ falls =
     ∷ 0x00 ∷ 0x0A ∷ 0x01 ∷ 0x00 ∷ 0x02 ∷ 0x00 ∷ 0x01 ∷ 0x00 ∷ 0x00 ∷ 0x00 ∷ 0x01 ∷ 0x21
     ∷ 0x00 ∷ 0x05 ∷ 0x04 ∷ 0x00 ∷ 0x00 ∷ 0x02 ∷ 0x00 ∷ []
 
-falls-off-the-end : (runAnswer falls 7 (1 ∷ []) ≡ safe 0) × (runAnswer falls 7 (2 ∷ []) ≡ safe 1) × (runAnswer falls 7 (3 ∷ []) ≡ safe 2)
-    × (runAnswer falls 7 (4 ∷ []) ≡ safe 3) × (runAnswer falls 3 (4 ∷ []) ≡ safe 3) × (runAnswer falls 2 (4 ∷ []) ≡ safe 2)
-    × (runAnswer falls 255 (5 ∷ []) ≡ safe 4)
+falls-off-the-end : (runAnswer falls 7 (1 ∷ []) ≡ ended 0) × (runAnswer falls 7 (2 ∷ []) ≡ ended 1) × (runAnswer falls 7 (3 ∷ []) ≡ ended 2)
+    × (runAnswer falls 7 (4 ∷ []) ≡ ended 3) × (runAnswer falls 3 (4 ∷ []) ≡ ended 3) × (runAnswer falls 2 (4 ∷ []) ≡ cut 2)
+    × (runAnswer falls 255 (5 ∷ []) ≡ ended 4)
 unfolding runAnswer readTable isTable readFile headerReply headSize headerInputs headerCount inputsLimit inputRoom records recordOf frame
     instr parseFrom readToken operator fits run value binary
 falls-off-the-end = (refl, refl, refl, refl, refl, refl, refl)
@@ -184,7 +190,7 @@ twoLoops =
 
 -- K = 2 is enough for either loop alone, not for both; K = 3 just is, and more changes nothing
 shared-bound : (runAnswer twoLoops 2 (3 ∷ 1 ∷ []) ≡ unsafeAt 16 2) × (runAnswer twoLoops 2 (1 ∷ 3 ∷ []) ≡ unsafeAt 16 2)
-    × (runAnswer twoLoops 2 (3 ∷ 2 ∷ []) ≡ safe 2) × (runAnswer twoLoops 3 (3 ∷ 2 ∷ []) ≡ unsafeAt 22 3)
+    × (runAnswer twoLoops 2 (3 ∷ 2 ∷ []) ≡ cut 2) × (runAnswer twoLoops 3 (3 ∷ 2 ∷ []) ≡ unsafeAt 22 3)
     × (runAnswer twoLoops 255 (3 ∷ 2 ∷ []) ≡ unsafeAt 22 3)
 unfolding runAnswer readTable isTable readFile headerReply headSize headerInputs headerCount inputsLimit inputRoom records recordOf frame
     instr parseFrom readToken operator fits run value binary
@@ -200,7 +206,7 @@ asserts (suc n) = 0x00 ∷ 0x03 ∷ 0x03 ∷ 0x02 ∷ 0x00 ∷ asserts n
 abbrev pub manyAsserts : List ℕ
 manyAsserts = 0x01 ∷ 0x14 ∷ 0x06 ∷ 0x01 ∷ 0x04 ∷ 0x00 ∷ asserts 1024
 
-many : (length manyAsserts ≡ 5126) × (runAnswer manyAsserts 1 (1 ∷ []) ≡ safe 0) × (runAnswer manyAsserts 1 (0 ∷ []) ≡ unsafeAt 0 0)
+many : (length manyAsserts ≡ 5126) × (runAnswer manyAsserts 1 (1 ∷ []) ≡ ended 0) × (runAnswer manyAsserts 1 (0 ∷ []) ≡ unsafeAt 0 0)
 unfolding runAnswer readTable isTable readFile headerReply headSize headerInputs headerCount inputsLimit inputRoom records recordOf frame
     instr parseFrom readToken operator fits run value
 many = (refl, refl, refl)
@@ -218,7 +224,7 @@ too-many = (refl, refl, refl)
 abbrev lastFails : List ℕ
 lastFails = 0x01 ∷ 0x14 ∷ 0x06 ∷ 0x02 ∷ 0x04 ∷ 0x00 ∷ asserts 1023 ++ 0x00 ∷ 0x03 ∷ 0x03 ∷ 0x02 ∷ 0x01 ∷ []
 
-last-fails : (runAnswer lastFails 0 (1 ∷ 0 ∷ []) ≡ unsafeAt 1023 0) × (runAnswer lastFails 0 (1 ∷ 1 ∷ []) ≡ safe 0)
+last-fails : (runAnswer lastFails 0 (1 ∷ 0 ∷ []) ≡ unsafeAt 1023 0) × (runAnswer lastFails 0 (1 ∷ 1 ∷ []) ≡ ended 0)
 unfolding runAnswer readTable isTable readFile headerReply headSize headerInputs headerCount inputsLimit inputRoom records recordOf frame
     instr parseFrom readToken operator fits run value
 last-fails = (refl, refl)

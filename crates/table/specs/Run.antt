@@ -27,7 +27,7 @@ step n K i r (Assign s e) ρ = Go (suc i) r (update ρ s (value ρ e))
 step n K i r (Test k e) ρ = cond (truthy (value ρ e)) (Go (suc i) r ρ) (Halt (Failed k (placeIn n r i)))
 step n K i r (IfThenGoto t e) ρ = cond (truthy (value ρ e)) (jump n K i r t ρ) (Go (suc i) r ρ)
 
--- the instruction at the front of those that are left; past the last one the run is safe
+-- the instruction at the front of those that are left; past the last one the run has ended
 abbrev pub stepAt : (n K i r : ℕ) → List Instr → Env → Next
 stepAt n K i r [] ρ = Halt Ended
 stepAt n K i r (x ∷ xs) ρ = step n K i r x ρ

@@ -5,7 +5,8 @@ mod steps;
 use file::INPUT_ROOM;
 ghost use Rattle.table.specs.Answer.{RunAnswered};
 
-// Document 01's answer to running: a reply and its offset, 0 safe or 1 unsafe with its place, the back jumps taken.
+// Document 01's answer to running: a reply and its offset; 0 ended, 1 unsafe with its place, 2 stopped by an Assume,
+// 3 cut by the bound; the back jumps taken.
 pub struct Answer {
     pub reply: u32,
     pub offset: u32,

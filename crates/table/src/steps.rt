@@ -47,7 +47,7 @@ fn jump(i: usize, t: usize, bound: usize, r: usize) -> Move
     if r < bound {
         return Move::Go(t, r + 1);
     }
-    Move::End(0, 0)
+    Move::End(3, 0)
 }
 
 // A false test ends the run.
@@ -57,7 +57,7 @@ fn failed(kind: u8, place: u32) -> Move
     if kind == 3 {
         return Move::End(1, place);
     }
-    Move::End(0, 0)
+    Move::End(2, 0)
 }
 
 // The value of the expression in the record at a place.

@@ -17,7 +17,8 @@ use Rattle.file.specs.File.{field, rule, holding}
 use Rattle.file.specs.Shown.{replyOf, exprReply}
 use Rattle.file.specs.FileLaws.{field-there, field-missing, reply-holding}
 use Rattle.trace.specs.Trace.{Assign, Test, Seen, assign, assignAt, testAt, stmt}
-use Rattle.trace.specs.TraceLaws.{kind-assign, kind-unknown}
+use Rattle.trace.specs.TraceLaws.{kind-assign, kind-test, kind-unknown, known-kind}
+use Rattle.trace.specs.Shown.{knownTest}
 
 module _ (top : ℕ) (σ : Seen) (body : List ℕ) (h : 0 < length body) where
   abbrev rest : List ℕ
@@ -68,8 +69,14 @@ module _ (top : ℕ) (σ : Seen) (body : List ℕ) (h : 0 < length body) where
       ap replyOf (ruled true true (le-leb (σ .least) symbol k) (lt-ltb symbol top m) l e)
       ∙ reply-holding (Assign place symbol) (parse Trace (σ .readable) (drop 5 body))
 
-  -- a test of either kind
-  module _ (k : Kind) (is : stmt top σ body ≡ field 2 (drop 1 body) (testAt σ k)) where
+  -- a test of a known kind
+  module _ (known : knownTest (σ .bounds) (getD body 0 0) ≡ true) where
+    abbrev k : Kind
+    k = known-kind σ (getD body 0 0) known .0
+
+    is : stmt top σ body ≡ field 2 (drop 1 body) (testAt σ k)
+    is = let q = known-kind σ (getD body 0 0) known in kind-test top σ body h (q .0) (q .1) (q .2)
+
     pub test-short : length body < 3 → replyOf (stmt top σ body) ≡ 5
     test-short l = ap replyOf (is ∙ field-missing 2 rest (testAt σ k) (omega (arith, left)))
 
@@ -78,5 +85,5 @@ module _ (top : ℕ) (σ : Seen) (body : List ℕ) (h : 0 < length body) where
         ap replyOf (is ∙ field-there 2 rest (testAt σ k) (omega (arith, left)) ∙ ap (testAt σ k place) (drop-drop 2 1 body))
         ∙ reply-holding (Test k place) (parse Trace (σ .readable) (drop 3 body))
 
-  pub unknown : (getD body 0 0 ≡ 1 → ⊥) → (getD body 0 0 ≡ 2 → ⊥) → (getD body 0 0 ≡ 3 → ⊥) → replyOf (stmt top σ body) ≡ 5
-  unknown a b c = ap replyOf (kind-unknown top σ body h a b c)
+  pub unknown : (getD body 0 0 ≡ 1 → ⊥) → knownTest (σ .bounds) (getD body 0 0) ≡ false → replyOf (stmt top σ body) ≡ 5
+  unknown a b = ap replyOf (kind-unknown top σ body h a b)

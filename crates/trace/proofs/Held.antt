@@ -10,13 +10,13 @@ use Rattle.expr.specs.declared.File.the-variants.{Trace}
 use Rattle.expr.specs.Number.{numberOf}
 use Rattle.expr.specs.Token.{Token}
 use Rattle.expr.specs.Expr.{Whole, parse}
-use Rattle.file.specs.Outcome.{Kind, Assume, Assert}
+use Rattle.file.specs.Outcome.{Kind, Assume, Assert, Bound}
 use Rattle.file.specs.File.{Body, Good, Bad, frame, recordOf}
-use Rattle.file.specs.Shown.{isGood, kindOf, restOf}
+use Rattle.file.specs.Shown.{isGood, restOf}
 use Rattle.file.specs.RecordLaws.{read-body, body-length, body-some, body-inside, body-part, body-kind, body-number}
-use Rattle.trace.specs.Trace.{Stmt, Assign, Test, Seen, stmt}
-use Rattle.trace.specs.TraceLaws.{Says, says-assign, says-assume, says-assert, says}
-use Rattle.trace.specs.Shown.{exprStart, exprPart, exprOf}
+use Rattle.trace.specs.Trace.{Stmt, Assign, Test, Seen, stmt, kindCode}
+use Rattle.trace.specs.TraceLaws.{no-assign, Says, says-assign, says-test, says}
+use Rattle.trace.specs.Shown.{testKind, exprStart, exprPart, exprOf}
 
 pub record Held (top : ℕ) (σ : Seen) (s : List ℕ) (at : ℕ) : Type 0 where
   pub statement : Stmt
@@ -28,8 +28,13 @@ pub record Held (top : ℕ) (σ : Seen) (s : List ℕ) (at : ℕ) : Type 0 where
   pub assigns : getD s (at + 2) 0 ≡ 1
       → (statement ≡ Assign (numberOf 2 (drop (at + 3) s)) (numberOf 2 (drop (at + 5) s)) (exprOf statement))
       × (numberOf 2 (drop (at + 5) s) < top) × (at + 7 ≤ length s)
-  pub tests : (getD s (at + 2) 0 ≡ 1 → ⊥) → (statement ≡ Test (kindOf (getD s (at + 2) 0)) (numberOf 2 (drop (at + 3) s))
+  pub tests : (getD s (at + 2) 0 ≡ 1 → ⊥) → (statement ≡ Test (testKind (getD s (at + 2) 0)) (numberOf 2 (drop (at + 3) s))
       (exprOf statement)) × (at + 5 ≤ length s)
+
+code-kind : (k : Kind) → testKind (kindCode k) ≡ k
+code-kind Assume = refl
+code-kind Assert = refl
+code-kind Bound = refl
 
 module _ (top : ℕ) (σ : Seen) (s : List ℕ) (at : ℕ) where
   module _ (x : Stmt) (g : recordOf (stmt top σ) (drop at s) ≡ Good x) where
@@ -54,7 +59,7 @@ module _ (top : ℕ) (σ : Seen) (s : List ℕ) (at : ℕ) where
     placed k q e p =
         ap (λ m. parse Trace (σ .readable) (restOf s at m)) q ∙ ap (parse Trace (σ .readable)) (sym (body-part (stmt top σ) s at x g k)) ∙ p
 
-    test : (k : Kind) (e : List Token) → (getD s (at + 2) 0 ≡ 1 → ⊥) → kindOf (getD s (at + 2) 0) ≡ k → 3 ≤ length body
+    test : (k : Kind) (e : List Token) → (getD s (at + 2) 0 ≡ 1 → ⊥) → testKind (getD s (at + 2) 0) ≡ k → 3 ≤ length body
         → parse Trace (σ .readable) (drop 3 body) ≡ Whole e
         → recordOf (stmt top σ) (drop at s) ≡ Good (Test k (numberOf 2 (drop 1 body)) e) → Held top σ s at
     test k e c d h p g =
@@ -86,12 +91,9 @@ module _ (top : ℕ) (σ : Seen) (s : List ℕ) (at : ℕ) where
               λ z. (ap₂ {C = Stmt} (λ w v. Assign w v e) (number 1 (omega arith)) y, subst (λ v. v < top) y m, omega (arith, long, inside));
           tests = λ z. absurd (z c);
         }
-    held x g (says-assume e k h p) =
-        let c : getD s (at + 2) 0 ≡ 2 = sym kind ∙ k in
-        test Assume e (λ z. omega arith) (rw (ne-eqb (getD s (at + 2) 0) 3 (λ z. omega arith))) h p g
-    held x g (says-assert e k h p) =
-        let c : getD s (at + 2) 0 ≡ 3 = sym kind ∙ k in
-        test Assert e (λ z. omega arith) (rw (eq-eqb (getD s (at + 2) 0) 3 c)) h p g
+    held x g (says-test k e t c h p) =
+        let code : getD s (at + 2) 0 ≡ kindCode k = sym kind ∙ c in
+        test k e (λ z. no-assign k (sym code ∙ z)) (ap testKind code ∙ code-kind k) h p g
 
   pub held-at : isGood (recordOf (stmt top σ) (drop at s)) ≡ true → Held top σ s at
   held-at h = go (recordOf (stmt top σ) (drop at s)) refl h

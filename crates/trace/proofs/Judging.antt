@@ -10,7 +10,7 @@ use borrow.Author.Tests.{lt-ltb, ltb-true}
 use Rattle.expr.specs.Word.{truthy}
 use Rattle.expr.specs.Eval.{Env, envOf, value}
 use Rattle.file.specs.Outcome.{Outcome, Failed, verdict, placeOf}
-use Rattle.file.specs.File.{inputRoom, headerVersion, headerSize, headerCount, Good, Input, Accepted, Refused}
+use Rattle.file.specs.File.{Head, inputRoom, headerVersion, headerSize, headerCount, Good, Input, Accepted, Refused}
 use Rattle.file.specs.Shown.{offsetsIn, isAccepted, listed}
 use Rattle.file.specs.FileLaws.{inputs-room, header-is, file-is, records-chain}
 use Rattle.trace.specs.declared.steps.Move.{Move}
@@ -33,11 +33,12 @@ pub loaded : (s : List ℕ) → isAccepted (readTrace s) ≡ true → Loaded s (
 unfolding readTrace
 loaded s h = go (readTrace s) refl h
   where
-    wide : (S : ℕ) → S ≤ inputRoom → Wider (S + 4096) (atFirst S) symbolRoom loose
-    wide S k = record {
+    wide : (head : Head) → head .inputs ≤ inputRoom → Wider (head .inputs + 4096) (atFirst head) symbolRoom loose
+    wide head k = record {
       higher = omega (arith, symbol-room);
       lower = omega arith;
-      reads = λ x q. lt-ltb x symbolRoom (omega (arith, symbol-room, ltb-true x S q));
+      reads = λ x q. lt-ltb x symbolRoom (omega (arith, symbol-room, ltb-true x (head .inputs) q));
+      tells = λ t. refl;
     }
 
     go : (x : Input Stmt) → readTrace s ≡ x → isAccepted x ≡ true → Loaded s (listed (readTrace s))
@@ -46,12 +47,12 @@ loaded s h = go (readTrace s) refl h
         let g = header-is isTrace 4096 s (f .header) in
         let S = head .inputs in
         let k : length ts ≡ headerCount s = records-chain (stmt (S + 4096)) see s (λ σ a. Unit {0}) (λ σ l m a q. tt) (headerCount s)
-        (headerSize s) (atFirst S) ts (f .read) .1 in
+        (headerSize s) (atFirst head) ts (f .read) .1 in
         subst (Loaded s) (sym (ap listed e)) (record {
           count = k;
           few = omega (arith, g .count);
-          stands = stmt-at s S (headerCount s) (headerSize s) (atFirst S)
-              (wide S (omega (arith, g .inputs, f .inputs, inputs-room (headerVersion s)))) ts (f .read);
+          stands = stmt-at s S (headerCount s) (headerSize s) (atFirst head)
+              (wide head (omega (arith, g .inputs, f .inputs, inputs-room (headerVersion s)))) ts (f .read);
         })
     go (Refused r f) e h = absurd (let z : _≡_ {A = ℕ} 0 1 = cc in omega arith)
 

@@ -15,8 +15,7 @@ use Rattle.file.specs.Outcome.{Failed}
 use Rattle.trace.specs.declared.steps.Move.{Move}
 use Rattle.trace.specs.declared.steps.Move.the-variants as M
 use Rattle.trace.specs.Trace.{Stmt, Assign, Test}
-use Rattle.file.specs.Shown.{kindOf}
-use Rattle.trace.specs.Shown.{symbolRoom, loose, held, exprPart, exprOf, valueIn, step, stepBody, Moved, endOf}
+use Rattle.trace.specs.Shown.{testKind, symbolRoom, loose, held, exprPart, exprOf, valueIn, step, stepBody, Moved, endOf}
 use Rattle.trace.proofs.Held.{Held}
 
 module _ {s : List ℕ} {at : ℕ} (h : Held symbolRoom loose s at) where
@@ -52,12 +51,12 @@ module _ {s : List ℕ} {at : ℕ} (h : Held symbolRoom loose s at) (cells : Lis
       )
 
   pub test-fails : (m : Move) (p : ℕ) → (getD s (at + 2) 0 ≡ 1 → ⊥) → w ≡ 0 → p ≡ numberOf 2 (drop (at + 3) s)
-      → m ≡ endOf (Failed (kindOf (getD s (at + 2) 0)) p) → Moved (stepBody (held (drop at s)) ρ) m cells
+      → m ≡ endOf (Failed (testKind (getD s (at + 2) 0)) p) → Moved (stepBody (held (drop at s)) ρ) m cells
   test-fails m p a z q e =
-      by m cells (Test (kindOf (getD s (at + 2) 0)) (numberOf 2 (drop (at + 3) s)) (exprOf (h .statement))) (h .tests a .0)
-      (rw (eq-eqb (value ρ (exprOf (h .statement))) 0 (sym is-value ∙ z)) (e ∙ ap (λ p. endOf (Failed (kindOf (getD s (at + 2) 0)) p)) q))
+      by m cells (Test (testKind (getD s (at + 2) 0)) (numberOf 2 (drop (at + 3) s)) (exprOf (h .statement))) (h .tests a .0)
+      (rw (eq-eqb (value ρ (exprOf (h .statement))) 0 (sym is-value ∙ z)) (e ∙ ap (λ p. endOf (Failed (testKind (getD s (at + 2) 0)) p)) q))
 
   pub test-holds : (getD s (at + 2) 0 ≡ 1 → ⊥) → (w ≡ 0 → ⊥) → Moved (stepBody (held (drop at s)) ρ) M.Go cells
   test-holds a z =
-      by M.Go cells (Test (kindOf (getD s (at + 2) 0)) (numberOf 2 (drop (at + 3) s)) (exprOf (h .statement))) (h .tests a .0)
+      by M.Go cells (Test (testKind (getD s (at + 2) 0)) (numberOf 2 (drop (at + 3) s)) (exprOf (h .statement))) (h .tests a .0)
       (rw (ne-eqb (value ρ (exprOf (h .statement))) 0 (λ y. z (is-value ∙ y))) (refl, refl))

@@ -14,9 +14,9 @@ use Rattle.expr.specs.Expr.{readable}
 use Rattle.file.specs.File.{inputRoom, headerSize, Body, Good, frame, recordOf}
 use Rattle.file.specs.FileLaws.{same-everywhere}
 use Rattle.file.specs.WalkLaws as Records
-use Rattle.trace.specs.Trace.{Stmt, Assign, Test, Seen, atFirst, see, stmt}
+use Rattle.trace.specs.Trace.{Stmt, Assign, Test, Seen, see, stmt}
 use Rattle.trace.specs.TraceLaws.{symbol-room, assigned-below}
-use Rattle.trace.specs.Shown.{symbolRoom, seen, leastAfter, mark, markedBy}
+use Rattle.trace.specs.Shown.{symbolRoom, seen, unseen, leastAfter, mark, markedBy}
 
 -- ---- the array of marks follows the definition's state
 
@@ -31,45 +31,47 @@ marked-readable S marks x h = fun-ext (λ y. go y (eqb y x) refl)
         ∙ or-right (ltb x S) true refl
     go y false e = ap (λ b. ltb y S || b) (getD-set-other marks x y true false (λ z. eqb-false y x e z))
 
-seen-after : (S l : ℕ) (marks : List Bool) (x : Stmt) → ((p y : ℕ) (e : List Token) → x ≡ Assign p y e → y < length marks)
-    → seen S (leastAfter (Good x) l) (mark marks x) ≡ see (seen S l marks) x
-seen-after S l marks (Assign p y e) h = ap (λ r. record { readable = r; least = suc y }) (marked-readable S marks y (h p y e refl))
-seen-after S l marks (Test k p e) h = refl
+seen-after : (S l : ℕ) (marks : List Bool) (b : Bool) (x : Stmt) → ((p y : ℕ) (e : List Token) → x ≡ Assign p y e → y < length marks)
+    → seen S (leastAfter (Good x) l) (mark marks x) b ≡ see (seen S l marks b) x
+seen-after S l marks b (Assign p y e) h =
+    ap (λ r. record { readable = r; least = suc y; bounds = b }) (marked-readable S marks y (h p y e refl))
+seen-after S l marks b (Test k p e) h = refl
 
 mark-length : (marks : List Bool) (x : Stmt) → length (mark marks x) ≡ length marks
 mark-length marks (Assign p y e) = length-set marks y true
 mark-length marks (Test k p e) = refl
 
 -- at first none is marked
-none-marked : (S n : ℕ) → seen S S (replicate n false) ≡ atFirst S
-none-marked S n =
-    ap {B = Seen} (λ f. record { readable = f; least = S })
+none-marked : (S : ℕ) (b : Bool) (n : ℕ) → seen S S (replicate n false) b ≡ unseen S b
+none-marked S b n =
+    ap {B = Seen} (λ f. record { readable = f; least = S; bounds = b })
     (fun-ext (λ y. ap (λ b. ltb y S || b) (same-everywhere n false y) ∙ or-false (ltb y S)))
 
 -- ---- the loop
 
-pub record Walking (s : List ℕ) (S n : ℕ) (off₀ : List ℕ) (off : List ℕ) (marks : List Bool) (at k least : ℕ) : Type 0 where
-  pub walk : Records.Walking (stmt (S + 4096)) see s n (atFirst S) off₀ off at k (seen S least marks)
+pub record Walking (s : List ℕ) (S : ℕ) (b : Bool) (n : ℕ) (off₀ : List ℕ) (off : List ℕ) (marks : List Bool)
+    (at k least : ℕ) : Type 0 where
+  pub walk : Records.Walking (stmt (S + 4096)) see s n (unseen S b) off₀ off at k (seen S least marks b)
   pub long : length marks ≡ symbolRoom
 
-module _ (s : List ℕ) (S n : ℕ) (off₀ : List ℕ) where
-  pub start : {at : ℕ} → at ≡ headerSize s → headerSize s ≤ length s → Walking s S n off₀ off₀ (replicate symbolRoom false) at 0 S
+module _ (s : List ℕ) (S : ℕ) (b : Bool) (n : ℕ) (off₀ : List ℕ) where
+  pub start : {at : ℕ} → at ≡ headerSize s → headerSize s ≤ length s → Walking s S b n off₀ off₀ (replicate symbolRoom false) at 0 S
   start {at} e h = record {
     walk =
-        subst (Records.Walking (stmt (S + 4096)) see s n (atFirst S) off₀ off₀ at 0) (sym (none-marked S symbolRoom))
-        (Records.start (stmt (S + 4096)) see s n (atFirst S) off₀ e h);
+        subst (Records.Walking (stmt (S + 4096)) see s n (unseen S b) off₀ off₀ at 0) (sym (none-marked S b symbolRoom))
+        (Records.start (stmt (S + 4096)) see s n (unseen S b) off₀ e h);
     long = length-replicate symbolRoom false;
   }
 
   -- with the code's own length of the record, marks and least symbol
-  pub on : S ≤ inputRoom → {off : List ℕ} {marks : List Bool} {at k least : ℕ} → Walking s S n off₀ off marks at k least → k < n
-      → (x : Stmt) → recordOf (stmt (S + 4096) (seen S least marks)) (drop at s) ≡ Good x → (len : ℕ) → len ≡ frame (drop at s)
+  pub on : S ≤ inputRoom → {off : List ℕ} {marks : List Bool} {at k least : ℕ} → Walking s S b n off₀ off marks at k least → k < n
+      → (x : Stmt) → recordOf (stmt (S + 4096) (seen S least marks b)) (drop at s) ≡ Good x → (len : ℕ) → len ≡ frame (drop at s)
       → at + (2 + len) ≤ length s
-      → (marks′ : List Bool) → marks′ ≡ markedBy (recordOf (stmt (S + 4096) (seen S least marks)) (drop at s)) marks
-      → (least′ : ℕ) → least′ ≡ leastAfter (recordOf (stmt (S + 4096) (seen S least marks)) (drop at s)) least
-      → Walking s S n off₀ (set off k at) marks′ (at + (2 + len)) (k + 1) least′
+      → (marks′ : List Bool) → marks′ ≡ markedBy (recordOf (stmt (S + 4096) (seen S least marks b)) (drop at s)) marks
+      → (least′ : ℕ) → least′ ≡ leastAfter (recordOf (stmt (S + 4096) (seen S least marks b)) (drop at s)) least
+      → Walking s S b n off₀ (set off k at) marks′ (at + (2 + len)) (k + 1) least′
   on small {off} {marks} {at} {k} {least} w h x e len le i marks′ me least′ se =
-      let σ = seen S least marks in
+      let σ = seen S least marks b in
       let small-enough : (p y : ℕ) (t : List Token) → x ≡ Assign p y t → y < length marks
       = λ p y t q. omega (
         arith,
@@ -79,13 +81,13 @@ module _ (s : List ℕ) (S n : ℕ) (off₀ : List ℕ) where
         small,
         symbol-room,
       ) in
-      let walking : Walking s S n off₀ (set off k at) (mark marks x) (at + (2 + len)) (k + 1) (leastAfter (Good x) least) = record {
+      let walking : Walking s S b n off₀ (set off k at) (mark marks x) (at + (2 + len)) (k + 1) (leastAfter (Good x) least) = record {
         walk =
-            subst (Records.Walking (stmt (S + 4096)) see s n (atFirst S) off₀ (set off k at) (at + (2 + len)) (k + 1))
-            (sym (seen-after S least marks x small-enough))
-            (Records.on (stmt (S + 4096)) see s n (atFirst S) off₀ (w .walk) h x e len le i);
+            subst (Records.Walking (stmt (S + 4096)) see s n (unseen S b) off₀ (set off k at) (at + (2 + len)) (k + 1))
+            (sym (seen-after S least marks b x small-enough))
+            (Records.on (stmt (S + 4096)) see s n (unseen S b) off₀ (w .walk) h x e len le i);
         long = mark-length marks x ∙ w .long;
       } in
-      subst (λ m. Walking s S n off₀ (set off k at) m (at + (2 + len)) (k + 1) least′) (sym (me ∙ ap (λ b. markedBy b marks) e))
-      (subst (Walking s S n off₀ (set off k at) (mark marks x) (at + (2 + len)) (k + 1)) (sym (se ∙ ap (λ b. leastAfter b least) e))
+      subst (λ m. Walking s S b n off₀ (set off k at) m (at + (2 + len)) (k + 1) least′) (sym (me ∙ ap (λ x. markedBy x marks) e))
+      (subst (Walking s S b n off₀ (set off k at) (mark marks x) (at + (2 + len)) (k + 1)) (sym (se ∙ ap (λ x. leastAfter x least) e))
       walking)

@@ -12,7 +12,7 @@ use Rattle.trace.specs.declared.Answer.{Answer}
 use Rattle.trace.specs.Trace.{Stmt, readTrace}
 use Rattle.trace.specs.Judge.{judge}
 
--- a refusal's other numbers are 0 and safe
+-- a refusal says ended, and its other numbers are 0
 abbrev pub refusal : (reply offset : ℕ) → Answer
 refusal reply offset = record { reply = reply; offset = offset; verdict = 0; place = 0 }
 

@@ -1,4 +1,4 @@
--- A trace with no Assert is safe; so what stands behind the last Assert decides nothing.
+-- A trace with no Assert is not unsafe; so what stands behind the last Assert decides nothing.
 use Prim.Native.Nat.{ℕ}
 use native.Mathlib.Omega.{arith}
 use mathlib.Core.Path.{_≡_, refl}
@@ -6,16 +6,16 @@ use mathlib.Core.Bool.{Bool, true, false, cond, _||_}
 use mathlib.Core.List.{List, [], _∷_}
 use Rattle.expr.specs.Word.{truthy}
 use Rattle.expr.specs.Eval.{Env, update, value}
-use Rattle.file.specs.Outcome.{Kind, Assume, Assert, Bound, Outcome, Ended, Failed, verdict, placeOf}
+use Rattle.file.specs.Outcome.{Kind, Assume, Assert, Bound, Outcome, Ended, Failed, unsafe, placeOf}
 use Rattle.trace.specs.Trace.{Stmt, Assign, Test}
 use Rattle.trace.specs.Judge.{judge}
 use Rattle.trace.specs.Asserts.{isAssert, hasAssert, asserted}
 
--- ---- a trace with no Assert is safe
+-- ---- a trace with no Assert is not unsafe
 
--- one verdict and one place
+-- unsafe or not, and one place
 abbrev pub Alike : (o u : Outcome) → Type 0
-Alike o u = (verdict o ≡ verdict u) × (placeOf o ≡ placeOf u)
+Alike o u = (unsafe o ≡ unsafe u) × (placeOf o ≡ placeOf u)
 
 pub alike-cond : (b : Bool) (o u z : Outcome) → Alike o u → Alike (cond b o z) (cond b u z)
 alike-cond true o u z h = h
@@ -40,7 +40,7 @@ no-assert-safe (Test k p e ∷ ts) σ h = go (truthy (value σ e)) (no-assert-he
 
 -- ---- up to the last Assert
 
--- a trace has the verdict and the place of what stands up to its last Assert
+-- a trace is unsafe, and at the same place, exactly if what stands up to its last Assert is
 pub asserted-alike : (ts : List Stmt) (σ : Env) → Alike (judge ts σ) (judge (asserted ts) σ)
 unfolding judge
 asserted-alike [] σ = (refl, refl)

@@ -14,18 +14,25 @@ use Rattle.trace.specs.Trace.{stmt, readTrace}
 use Rattle.trace.specs.Judge.{judge}
 use Rattle.trace.specs.Answer.{refusal, judgeAnswer}
 use Rattle.file.specs.File.{headSize, headerInputs, headerCount, inputsLimit, inputRoom}
-use Rattle.trace.specs.Trace.{isTrace, traceVersion}
+use Rattle.trace.specs.Trace.{isTrace, traceVersion, oldVersion, tellsBound}
 
-abbrev pub safe : Answer
-safe = record { reply = 0; offset = 0; verdict = 0; place = 0 }
+abbrev pub ended : Answer
+ended = record { reply = 0; offset = 0; verdict = 0; place = 0 }
+
+abbrev pub stopped : Answer
+stopped = record { reply = 0; offset = 0; verdict = 2; place = 0 }
+
+abbrev pub cut : Answer
+cut = record { reply = 0; offset = 0; verdict = 3; place = 0 }
 
 abbrev pub unsafeAt : (place : ℕ) → Answer
 unsafeAt p = record { reply = 0; offset = 0; verdict = 1; place = p }
 
--- the small rule's trace under K = 0: assigns to s1, s2 and s3, assume at 2, assert at 3, assign to s4
-abbrev pub smallTrace0 : List ℕ
-smallTrace0 =
-    0x81 ∷ 0x00 ∷ 0x9C ∷ 0x01 ∷ 0x00 ∷ 0x06
+-- the small rule's trace under K = 0, in a version and with its kind of the bound's test: assigns to s1, s2 and s3, the bound at 2, assert
+-- at 3, assign to s4
+abbrev pub smallUnder0 : (version bound : ℕ) → List ℕ
+smallUnder0 version bound =
+    version ∷ 0x00 ∷ 0x9C ∷ 0x01 ∷ 0x00 ∷ 0x06
     ∷ 0x00 ∷ 0x0A ∷ 0x01 ∷ 0xFF ∷ 0xFF ∷ 0x00 ∷ 0x01
     ∷ 0x01 ∷ 0x00 ∷ 0x00 ∷ 0x00 ∷ 0x00
     ∷ 0x00 ∷ 0x1F ∷ 0x01 ∷ 0x00 ∷ 0x00 ∷ 0x00 ∷ 0x02
@@ -36,7 +43,7 @@ smallTrace0 =
     ∷ 0x03 ∷ 0x00 ∷ 0x02 ∷ 0x01 ∷ 0x00 ∷ 0x00 ∷ 0x00 ∷ 0x01 ∷ 0x2D
     ∷ 0x03 ∷ 0x00 ∷ 0x00 ∷ 0x01 ∷ 0x00 ∷ 0x00 ∷ 0x00 ∷ 0x01 ∷ 0x21
     ∷ 0x03 ∷ 0x00 ∷ 0x00 ∷ 0x30
-    ∷ 0x00 ∷ 0x18 ∷ 0x02 ∷ 0x00 ∷ 0x02
+    ∷ 0x00 ∷ 0x18 ∷ bound ∷ 0x00 ∷ 0x02
     ∷ 0x03 ∷ 0x00 ∷ 0x02 ∷ 0x01 ∷ 0x00 ∷ 0x00 ∷ 0x00 ∷ 0x02 ∷ 0x2D
     ∷ 0x01 ∷ 0x00 ∷ 0x00 ∷ 0x00 ∷ 0x01 ∷ 0x12
     ∷ 0x01 ∷ 0x00 ∷ 0x00 ∷ 0x00 ∷ 0x01 ∷ 0x30
@@ -50,9 +57,9 @@ smallTrace0 =
     ∷ 0x03 ∷ 0x00 ∷ 0x02 ∷ 0x30 ∷ []
 
 -- and under K = 1
-abbrev pub smallTrace1 : List ℕ
-smallTrace1 =
-    0x81 ∷ 0x01 ∷ 0x2E ∷ 0x01 ∷ 0x00 ∷ 0x0B
+abbrev pub smallUnder1 : (version bound : ℕ) → List ℕ
+smallUnder1 version bound =
+    version ∷ 0x01 ∷ 0x2E ∷ 0x01 ∷ 0x00 ∷ 0x0B
     ∷ 0x00 ∷ 0x0A ∷ 0x01 ∷ 0xFF ∷ 0xFF ∷ 0x00 ∷ 0x01
     ∷ 0x01 ∷ 0x00 ∷ 0x00 ∷ 0x00 ∷ 0x00
     ∷ 0x00 ∷ 0x1F ∷ 0x01 ∷ 0x00 ∷ 0x00 ∷ 0x00 ∷ 0x02
@@ -83,7 +90,7 @@ smallTrace1 =
     ∷ 0x03 ∷ 0x00 ∷ 0x06 ∷ 0x01 ∷ 0x00 ∷ 0x00 ∷ 0x00 ∷ 0x06 ∷ 0x2D
     ∷ 0x03 ∷ 0x00 ∷ 0x03 ∷ 0x01 ∷ 0x00 ∷ 0x00 ∷ 0x00 ∷ 0x01 ∷ 0x21
     ∷ 0x03 ∷ 0x00 ∷ 0x03 ∷ 0x30
-    ∷ 0x00 ∷ 0x18 ∷ 0x02 ∷ 0x00 ∷ 0x07
+    ∷ 0x00 ∷ 0x18 ∷ bound ∷ 0x00 ∷ 0x07
     ∷ 0x03 ∷ 0x00 ∷ 0x06 ∷ 0x01 ∷ 0x00 ∷ 0x00 ∷ 0x00 ∷ 0x07 ∷ 0x2D
     ∷ 0x01 ∷ 0x00 ∷ 0x00 ∷ 0x00 ∷ 0x01 ∷ 0x12
     ∷ 0x01 ∷ 0x00 ∷ 0x00 ∷ 0x00 ∷ 0x01 ∷ 0x30
@@ -96,30 +103,51 @@ smallTrace1 =
     ∷ 0x01 ∷ 0x00 ∷ 0x00 ∷ 0x00 ∷ 0x0A
     ∷ 0x03 ∷ 0x00 ∷ 0x06 ∷ 0x30 ∷ []
 
+-- as they are written
+abbrev pub smallTrace0 : List ℕ
+smallTrace0 = smallUnder0 0x82 0x04
+
+abbrev pub smallTrace1 : List ℕ
+smallTrace1 = smallUnder1 0x82 0x04
+
 pub m1 : judgeAnswer smallTrace0 (0 ∷ []) ≡ unsafeAt 3
-unfolding judgeAnswer readTrace isTrace traceVersion readFile headerReply headSize headerInputs headerCount inputsLimit inputRoom records
-    recordOf frame stmt parseFrom readToken operator fits judge value unary binary
+unfolding judgeAnswer readTrace isTrace traceVersion oldVersion tellsBound readFile headerReply headSize headerInputs headerCount
+    inputsLimit inputRoom records recordOf frame stmt parseFrom readToken operator fits judge value unary binary
 m1 = refl
 
-pub m2 : judgeAnswer smallTrace0 (1 ∷ []) ≡ safe
-unfolding judgeAnswer readTrace isTrace traceVersion readFile headerReply headSize headerInputs headerCount inputsLimit inputRoom records
-    recordOf frame stmt parseFrom readToken operator fits judge value unary binary
+pub m2 : judgeAnswer smallTrace0 (1 ∷ []) ≡ cut
+unfolding judgeAnswer readTrace isTrace traceVersion oldVersion tellsBound readFile headerReply headSize headerInputs headerCount
+    inputsLimit inputRoom records recordOf frame stmt parseFrom readToken operator fits judge value unary binary
 m2 = refl
 
 pub m3 : judgeAnswer smallTrace1 (1 ∷ []) ≡ unsafeAt 8
-unfolding judgeAnswer readTrace isTrace traceVersion readFile headerReply headSize headerInputs headerCount inputsLimit inputRoom records
-    recordOf frame stmt parseFrom readToken operator fits judge value unary binary
+unfolding judgeAnswer readTrace isTrace traceVersion oldVersion tellsBound readFile headerReply headSize headerInputs headerCount
+    inputsLimit inputRoom records recordOf frame stmt parseFrom readToken operator fits judge value unary binary
 m3 = refl
 
-pub m4 : judgeAnswer smallTrace1 (2 ∷ []) ≡ safe
-unfolding judgeAnswer readTrace isTrace traceVersion readFile headerReply headSize headerInputs headerCount inputsLimit inputRoom records
-    recordOf frame stmt parseFrom readToken operator fits judge value unary binary
+pub m4 : judgeAnswer smallTrace1 (2 ∷ []) ≡ cut
+unfolding judgeAnswer readTrace isTrace traceVersion oldVersion tellsBound readFile headerReply headSize headerInputs headerCount
+    inputsLimit inputRoom records recordOf frame stmt parseFrom readToken operator fits judge value unary binary
 m4 = refl
+
+-- and as they were written before: a cut shows as stopped
+pub old : (judgeAnswer (smallUnder0 0x81 0x02) (0 ∷ []) ≡ unsafeAt 3) × (judgeAnswer (smallUnder0 0x81 0x02) (1 ∷ []) ≡ stopped)
+    × (judgeAnswer (smallUnder1 0x81 0x02) (1 ∷ []) ≡ unsafeAt 8) × (judgeAnswer (smallUnder1 0x81 0x02) (2 ∷ []) ≡ stopped)
+unfolding judgeAnswer readTrace isTrace traceVersion oldVersion tellsBound readFile headerReply headSize headerInputs headerCount
+    inputsLimit inputRoom records recordOf frame stmt parseFrom readToken operator fits judge value unary binary
+old = (refl, refl, refl, refl)
+
+-- kind 4 is refused under 129, at the record; and no other version is known
+bounds-kind : (judgeAnswer (smallUnder0 0x81 0x04) (1 ∷ []) ≡ refusal 5 80) × (judgeAnswer (smallUnder0 0x82 0x05) (1 ∷ []) ≡ refusal 5 80)
+    × (judgeAnswer (smallUnder0 0x80 0x02) (1 ∷ []) ≡ refusal 2 0) × (judgeAnswer (smallUnder0 0x83 0x04) (1 ∷ []) ≡ refusal 2 0)
+unfolding judgeAnswer readTrace isTrace traceVersion oldVersion tellsBound readFile headerReply headSize headerInputs headerCount
+    inputsLimit inputRoom records recordOf frame stmt parseFrom readToken operator fits judge value unary binary
+bounds-kind = (refl, refl, refl, refl)
 
 -- the trace of a table without instructions
 abbrev pub noInstructions : List ℕ
 noInstructions =
-    0x81 ∷ 0x00 ∷ 0x2B ∷ 0x00 ∷ 0x00 ∷ 0x02
+    0x82 ∷ 0x00 ∷ 0x2B ∷ 0x00 ∷ 0x00 ∷ 0x02
     ∷ 0x00 ∷ 0x0A ∷ 0x01 ∷ 0xFF ∷ 0xFF ∷ 0x00 ∷ 0x00
     ∷ 0x01 ∷ 0x00 ∷ 0x00 ∷ 0x00 ∷ 0x00
     ∷ 0x00 ∷ 0x17 ∷ 0x01 ∷ 0x00 ∷ 0x00 ∷ 0x00 ∷ 0x01
@@ -127,9 +155,9 @@ noInstructions =
     ∷ 0x01 ∷ 0x00 ∷ 0x00 ∷ 0x00 ∷ 0x01
     ∷ 0x03 ∷ 0x00 ∷ 0x00 ∷ 0x30 ∷ []
 
-pub m11 : judgeAnswer noInstructions [] ≡ safe
-unfolding judgeAnswer readTrace isTrace traceVersion readFile headerReply headSize headerInputs headerCount inputsLimit inputRoom records
-    recordOf frame stmt parseFrom readToken operator fits judge value unary binary
+pub m11 : judgeAnswer noInstructions [] ≡ ended
+unfolding judgeAnswer readTrace isTrace traceVersion oldVersion tellsBound readFile headerReply headSize headerInputs headerCount
+    inputsLimit inputRoom records recordOf frame stmt parseFrom readToken operator fits judge value unary binary
 m11 = refl
 
 -- source 000's example: s1 = s0 + 1 at 0; assert s1 ult 10 at 1
@@ -141,9 +169,9 @@ example =
     ∷ 0x00 ∷ 0x0C ∷ 0x03 ∷ 0x00 ∷ 0x01
     ∷ 0x03 ∷ 0x00 ∷ 0x01 ∷ 0x01 ∷ 0x00 ∷ 0x00 ∷ 0x00 ∷ 0x0A ∷ 0x2B ∷ []
 
-pub m12 : (judgeAnswer example (5 ∷ []) ≡ safe) × (judgeAnswer example (10 ∷ []) ≡ unsafeAt 1) × (judgeAnswer example [] ≡ refusal 11 0)
-unfolding judgeAnswer readTrace isTrace traceVersion readFile headerReply headSize headerInputs headerCount inputsLimit inputRoom records
-    recordOf frame stmt parseFrom readToken operator fits judge value unary binary
+pub m12 : (judgeAnswer example (5 ∷ []) ≡ ended) × (judgeAnswer example (10 ∷ []) ≡ unsafeAt 1) × (judgeAnswer example [] ≡ refusal 11 0)
+unfolding judgeAnswer readTrace isTrace traceVersion oldVersion tellsBound readFile headerReply headSize headerInputs headerCount
+    inputsLimit inputRoom records recordOf frame stmt parseFrom readToken operator fits judge value unary binary
 m12 = (refl, refl, refl)
 
 -- ---- refusals, of traces without inputs
@@ -170,12 +198,12 @@ one x = 0x00 ∷ 0x0A ∷ 0x01 ∷ 0x00 ∷ 0x00 ∷ 0x00 ∷ x ∷ 0x01 ∷ 0x0
 -- a spare byte at the end wins over an assert that fails first; an assume excuses only before the assert; symbols rise; a statement does
 -- not read its own symbol
 sentences : (judgeAnswer (traceOf 16 1 fails) [] ≡ unsafeAt 7) × (judgeAnswer (traceOf 17 1 (fails ++ 0x00 ∷ [])) [] ≡ refusal 5 16)
-    × (judgeAnswer (traceOf 26 2 (fails ++ excuses)) [] ≡ unsafeAt 7) × (judgeAnswer (traceOf 26 2 (excuses ++ fails)) [] ≡ safe)
-    × (judgeAnswer (traceOf 28 2 (one 1 ++ copies 2 1)) [] ≡ safe) × (judgeAnswer (traceOf 30 2 (one 1 ++ one 1)) [] ≡ refusal 6 18)
+    × (judgeAnswer (traceOf 26 2 (fails ++ excuses)) [] ≡ unsafeAt 7) × (judgeAnswer (traceOf 26 2 (excuses ++ fails)) [] ≡ stopped)
+    × (judgeAnswer (traceOf 28 2 (one 1 ++ copies 2 1)) [] ≡ ended) × (judgeAnswer (traceOf 30 2 (one 1 ++ one 1)) [] ≡ refusal 6 18)
     × (judgeAnswer (traceOf 30 2 (one 1 ++ one 0)) [] ≡ refusal 6 18)
     × (judgeAnswer (traceOf 16 1 (copies 0 0)) [] ≡ refusal 7 6) × (judgeAnswer (traceOf 28 2 (one 1 ++ copies 2 0)) [] ≡ refusal 7 18)
-unfolding judgeAnswer readTrace isTrace traceVersion readFile headerReply headSize headerInputs headerCount inputsLimit inputRoom records
-    recordOf frame stmt parseFrom readToken operator fits judge value unary binary
+unfolding judgeAnswer readTrace isTrace traceVersion oldVersion tellsBound readFile headerReply headSize headerInputs headerCount
+    inputsLimit inputRoom records recordOf frame stmt parseFrom readToken operator fits judge value unary binary
 sentences = (refl, refl, refl, refl, refl, refl, refl, refl, refl)
 
 -- at place p a test of a constant below 256
@@ -191,8 +219,8 @@ places : (judgeAnswer (traceOf 26 2 (testOf 3 0xFF 2 ++ testOf 3 0xFE 0)) [] ≡
     × (judgeAnswer (traceOf 16 1 (testOf 3 0xFF 0)) [] ≡ unsafeAt 65535)
     × (judgeAnswer (traceOf 26 2 (testOf 2 0xFF 2 ++ testOf 3 0xFF 0)) [] ≡ unsafeAt 65535)
     × (judgeAnswer (traceOf 16 1 failsAtZero) [] ≡ unsafeAt 0)
-unfolding judgeAnswer readTrace isTrace traceVersion readFile headerReply headSize headerInputs headerCount inputsLimit inputRoom records
-    recordOf frame stmt parseFrom readToken operator fits judge value
+unfolding judgeAnswer readTrace isTrace traceVersion oldVersion tellsBound readFile headerReply headSize headerInputs headerCount
+    inputsLimit inputRoom records recordOf frame stmt parseFrom readToken operator fits judge value
 places = (refl, refl, refl, refl)
 
 -- ---- limits
@@ -211,22 +239,24 @@ highest S high low =
 symbols : (judgeAnswer (highest 0 0x0F 0xFF) [] ≡ unsafeAt 9) × (judgeAnswer (highest 0 0x10 0x00) [] ≡ refusedAt 6 6)
     × (judgeAnswer (highest 1 0x10 0x00) (7 ∷ []) ≡ unsafeAt 9) × (judgeAnswer (highest 1 0x10 0x01) (7 ∷ []) ≡ refusedAt 6 6)
     × (judgeAnswer (highest 64 0x10 0x40) [] ≡ refusedAt 6 6) × (judgeAnswer (highest 64 0x10 0x3F) [] ≡ refusedAt 11 0)
-unfolding judgeAnswer readTrace isTrace traceVersion readFile headerReply headSize headerInputs headerCount inputsLimit inputRoom records
-    recordOf frame stmt parseFrom readToken operator fits judge value
+unfolding judgeAnswer readTrace isTrace traceVersion oldVersion tellsBound readFile headerReply headSize headerInputs headerCount
+    inputsLimit inputRoom records recordOf frame stmt parseFrom readToken operator fits judge value
 symbols = (refl, refl, refl, refl, refl, refl)
 
 -- of S inputs and no statements, by their version
 abbrev empty : (version S : ℕ) → List ℕ
 empty version S = version ∷ 0x00 ∷ 0x06 ∷ S ∷ 0x00 ∷ 0x00 ∷ []
 
--- a trace has at most 64 inputs, and no other version is a trace's
+-- a trace of either version has at most 64 inputs, and no other version is a trace's
 inputs : (judgeAnswer (empty 0x81 64) [] ≡ refusedAt 11 0) × (judgeAnswer (empty 0x81 65) [] ≡ refusedAt 4 0)
-unfolding judgeAnswer readTrace isTrace traceVersion readFile headerReply headSize headerInputs headerCount inputsLimit inputRoom records
-inputs = (refl, refl)
+    × (judgeAnswer (empty 0x82 64) [] ≡ refusedAt 11 0) × (judgeAnswer (empty 0x82 65) [] ≡ refusedAt 4 0)
+unfolding judgeAnswer readTrace isTrace traceVersion oldVersion tellsBound readFile headerReply headSize headerInputs headerCount inputsLimit
+    inputRoom records
+inputs = (refl, refl, refl, refl)
 
-versions : (v : ℕ) → (v ≡ 129 → ⊥) → judgeAnswer (empty v 0) [] ≡ refusedAt 2 0
-unfolding judgeAnswer readTrace isTrace traceVersion readFile headerReply headSize
-versions v h = rw (ne-eqb v 129 h)
+versions : (v : ℕ) → (v ≡ 130 → ⊥) → (v ≡ 129 → ⊥) → judgeAnswer (empty v 0) [] ≡ refusedAt 2 0
+unfolding judgeAnswer readTrace isTrace traceVersion oldVersion readFile headerReply headSize
+versions v h k = rw (ne-eqb v 130 h, ne-eqb v 129 k)
 
 -- at 7 an assert of symbol 0, so many times
 abbrev asserts : ℕ → List ℕ
@@ -244,6 +274,6 @@ tooMany = 0x81 ∷ 0x80 ∷ 0x0E ∷ 0x02 ∷ 0x10 ∷ 0x01 ∷ asserts 4097
 -- 4,096 statements are judged to the last, 4,097 are 4
 statements : (length most ≡ 32774) × (judgeAnswer most (1 ∷ 0 ∷ []) ≡ unsafeAt 8)
     × (length tooMany ≡ 32782) × (judgeAnswer tooMany (1 ∷ 0 ∷ []) ≡ refusedAt 4 0)
-unfolding judgeAnswer readTrace isTrace traceVersion readFile headerReply headSize headerInputs headerCount inputsLimit inputRoom records
-    recordOf frame stmt parseFrom readToken operator fits judge value
+unfolding judgeAnswer readTrace isTrace traceVersion oldVersion tellsBound readFile headerReply headSize headerInputs headerCount
+    inputsLimit inputRoom records recordOf frame stmt parseFrom readToken operator fits judge value
 statements = (refl, refl, refl, refl)

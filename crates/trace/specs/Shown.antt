@@ -1,7 +1,7 @@
 -- What the code's values mean: its answers as functions of the definitions.
 use Prim.Native.Nat.{ℕ, suc, _+_}
 use mathlib.Core.Path.{_≡_}
-use mathlib.Core.Bool.{Bool, true, cond}
+use mathlib.Core.Bool.{Bool, true, cond, _||_}
 use mathlib.Core.List.{List}
 use lib.ListN.{getD, set}
 use lib.Dec.{eqb}
@@ -9,7 +9,7 @@ use Rattle.expr.specs.Token.{Token}
 use Rattle.expr.specs.Expr.{below, readable}
 use Rattle.expr.specs.Eval.{Env, envOf, update, value}
 use Rattle.expr.specs.Word.{truthy}
-use Rattle.file.specs.Outcome.{Outcome, Lost, Failed, verdict, placeOf}
+use Rattle.file.specs.Outcome.{Kind, Assume, Assert, Bound, Outcome, Lost, Failed, verdict, placeOf}
 use Rattle.file.specs.File.{Body, Good, Bad, recordOf}
 use Rattle.file.specs.Shown as File
 use Rattle.file.specs.Shown.{restOf, fileCount, ReadFile}
@@ -21,8 +21,20 @@ use Rattle.trace.specs.Trace.{Stmt, Assign, Test, Seen, atFirst, see, st
 -- ---- reading
 
 -- the state that the code keeps: the symbols assigned as an array, and the least that may be assigned
-abbrev pub seen : (S least : ℕ) (assigned : List Bool) → Seen
-seen S l assigned = record { readable = readable S assigned; least = l }
+abbrev pub seen : (S least : ℕ) (assigned : List Bool) (bounds : Bool) → Seen
+seen S l assigned b = record { readable = readable S assigned; least = l; bounds = b }
+
+-- before the first statement
+abbrev pub unseen : (S : ℕ) (bounds : Bool) → Seen
+unseen S b = record { readable = below S; least = S; bounds = b }
+
+-- whether a test's code is known
+abbrev pub knownTest : (bounds : Bool) (code : ℕ) → Bool
+knownTest b k = cond (eqb k 4) b (eqb k 2 || eqb k 3)
+
+-- a test's kind by its code
+abbrev pub testKind : (code : ℕ) → Kind
+testKind k = cond (eqb k 3) Assert (cond (eqb k 4) Bound Assume)
 
 abbrev pub leastAfter : Body Stmt → ℕ → ℕ
 leastAfter (Good (Assign p x e)) l = suc x
@@ -38,12 +50,12 @@ markedBy (Good x) assigned = mark assigned x
 markedBy (Bad r) assigned = assigned
 
 -- the reading of the n records after a trace's header
-abbrev pub ReadRecords : (trace : List ℕ) (S n : ℕ) (before after : List ℕ) → Reading → Type 0
-ReadRecords trace S n before after r = File.ReadRecords (stmt (S + 4096)) see trace n (atFirst S) before after r
+abbrev pub ReadRecords : (trace : List ℕ) (S : ℕ) (bounds : Bool) (n : ℕ) (before after : List ℕ) → Reading → Type 0
+ReadRecords trace S b n before after r = File.ReadRecords (stmt (S + 4096)) see trace n (unseen S b) before after r
 
 -- of a trace's records, how many are read before the first refusal
 abbrev pub stmtCount : (trace : List ℕ) → ℕ
-stmtCount trace = fileCount isTrace 4096 (λ head n. stmt (head .inputs + 4096)) see (λ head. atFirst (head .inputs)) trace
+stmtCount trace = fileCount isTrace 4096 (λ head n. stmt (head .inputs + 4096)) see atFirst trace
 
 -- the reading of a trace
 abbrev pub ReadTrace : (trace before after : List ℕ) → Reading → Type 0
@@ -61,7 +73,7 @@ symbolRoom = 4160
 
 -- what every accepted statement keeps to
 abbrev pub loose : Seen
-loose = record { readable = below symbolRoom; least = 0 }
+loose = record { readable = below symbolRoom; least = 0; bounds = true }
 
 abbrev pub held : List ℕ → Body Stmt
 held bs = recordOf (stmt symbolRoom loose) bs

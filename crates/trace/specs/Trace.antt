@@ -15,18 +15,38 @@ pub data Stmt : Type 0 where
   Assign : (place symbol : ℕ) → List Token → Stmt
   Test : Kind → (place : ℕ) → List Token → Stmt
 
--- what the statements before a statement allow: the symbols that may be read, and the least that may be assigned
+-- ---- versions
+
+-- 130 is written; 129, in which the bound's tests are Assumes, is still read
+unfoldable pub traceVersion : ℕ
+traceVersion = 130
+
+unfoldable pub oldVersion : ℕ
+oldVersion = 129
+
+unfoldable pub isTrace : (version : ℕ) → Bool
+isTrace version = eqb version traceVersion || eqb version oldVersion
+
+-- the bound's tests have a kind of their own
+unfoldable pub tellsBound : (version : ℕ) → Bool
+tellsBound version = eqb version traceVersion
+
+-- ---- statements
+
+-- what the version and the statements before a statement allow: the symbols that may be read, the least that may be assigned, the bound's
+-- kind
 pub record Seen : Type 0 where
   pub readable : ℕ → Bool
   pub least : ℕ
+  pub bounds : Bool
 
 -- at first inputs may be read, and an assigned symbol is at least S
-abbrev pub atFirst : (S : ℕ) → Seen
-atFirst S = record { readable = below S; least = S }
+abbrev pub atFirst : (head : Head) → Seen
+atFirst head = record { readable = below (head .inputs); least = head .inputs; bounds = tellsBound (head .version) }
 
 -- an assigned symbol may be read by later statements, and the next one is greater
 abbrev pub see : Seen → Stmt → Seen
-see σ (Assign p x e) = record { readable = λ y. eqb y x || σ .readable y; least = suc x }
+see σ (Assign p x e) = record { readable = λ y. eqb y x || σ .readable y; least = suc x; bounds = σ .bounds }
 see σ (Test k p e) = σ
 
 -- ---- what follows a record's kind; assigned symbols are below `top`
@@ -47,21 +67,15 @@ stmt top σ (kind ∷ bs) =
     cond (eqb kind 1) (field 2 bs (assignAt top σ))
     (cond (eqb kind 2) (field 2 bs (testAt σ Assume))
     (cond (eqb kind 3) (field 2 bs (testAt σ Assert))
-    (Bad 5)))
+    (cond (σ .bounds && eqb kind 4) (field 2 bs (testAt σ Bound))
+    (Bad 5))))
 
 -- c of the statements, and nothing after them
 abbrev pub stmtsFrom : (S c : ℕ) → Seen → List ℕ → Records Stmt
 stmtsFrom S c σ bs = records (stmt (S + 4096)) see c σ bs
 
 abbrev pub stmts : (head : Head) (n : ℕ) → List ℕ → Records Stmt
-stmts head n bs = stmtsFrom (head .inputs) n (atFirst (head .inputs)) bs
-
--- the version of a trace
-unfoldable pub traceVersion : ℕ
-traceVersion = 129
-
-unfoldable pub isTrace : (version : ℕ) → Bool
-isTrace version = eqb version traceVersion
+stmts head n bs = stmtsFrom (head .inputs) n (atFirst head) bs
 
 -- at most 4,096 statements
 unfoldable pub readTrace : List ℕ → Input Stmt
@@ -69,11 +83,10 @@ readTrace bs = readFile isTrace 4096 stmts bs
 
 -- ---- writing
 
--- the bound's test is an Assume
 abbrev pub kindCode : Kind → ℕ
 kindCode Assume = 2
 kindCode Assert = 3
-kindCode Bound = 2
+kindCode Bound = 4
 
 abbrev pub stmtBytes : Stmt → List ℕ
 stmtBytes (Assign p x e) = 1 ∷ bytesOf 2 p ++ bytesOf 2 x ++ exprBytes Trace e

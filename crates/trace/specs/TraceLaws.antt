@@ -2,7 +2,7 @@
 use Prim.Native.Nat.{ℕ, zero, suc, _+_, _≤_, _<_}
 use native.Mathlib.Omega.{arith}
 use mathlib.Core.Path.{_≡_, refl, sym, ap, _∙_, subst}
-use mathlib.Core.Bool.{Bool, true, false, cond, _&&_}
+use mathlib.Core.Bool.{Bool, true, false, cond, _&&_, _||_}
 use mathlib.Core.List.{List, [], _∷_}
 use lib.ListN.{length, take, drop, getD, length-drop}
 use lib.Seq.{length-take-le, drop-drop}
@@ -14,15 +14,22 @@ use Rattle.expr.specs.Number.{numberOf}
 use Rattle.expr.specs.Token.{Token}
 use Rattle.expr.specs.Expr.{readable, Whole, parse}
 use Rattle.expr.specs.ExprLaws.{parse-more}
-use Rattle.file.specs.Outcome.{Kind, Assume, Assert}
+use Rattle.file.specs.Outcome.{Kind, Assume, Assert, Bound}
 use Rattle.file.specs.File.{Head, inputRoom, headerInputs, headOf, Body, Good, Bad, field, frame, Read, recordOf, Accepted}
 use Rattle.file.specs.Shown.{offsetsFrom}
 use Rattle.file.specs.FileLaws.{Low, holding-low, cond-low, framed, record-framed, record-good, next-record, records-chain, file-is}
 use Rattle.file.specs.FileLaws.{field-there, field-good, rule-good, holding-good}
 use Rattle.trace.specs.Trace.{Stmt, Assign, Test, Seen, see, assign, assignAt, testAt, stmt, stmtsFrom, stmts, isTrace, readTrace}
-use Rattle.trace.specs.Shown.{symbolRoom, loose}
+use Rattle.trace.specs.Trace.{kindCode}
+use Rattle.trace.specs.Shown.{knownTest, symbolRoom, loose}
 
 -- ---- a record by its kind
+
+-- the kinds of test that are known: the bound's where it is told apart
+abbrev pub Told : (bounds : Bool) → Kind → Type 0
+Told b Assume = Unit {0}
+Told b Assert = Unit {0}
+Told b Bound = b ≡ true
 
 module _ (top : ℕ) (σ : Seen) (body : List ℕ) (h : 0 < length body) where
   abbrev kind : ℕ
@@ -32,7 +39,8 @@ module _ (top : ℕ) (σ : Seen) (body : List ℕ) (h : 0 < length body) where
       cond (eqb (getD body 0 0) 1) (field 2 (drop 1 body) (assignAt top σ))
       (cond (eqb (getD body 0 0) 2) (field 2 (drop 1 body) (testAt σ Assume))
       (cond (eqb (getD body 0 0) 3) (field 2 (drop 1 body) (testAt σ Assert))
-      (Bad 5)))
+      (cond (σ .bounds && eqb (getD body 0 0) 4) (field 2 (drop 1 body) (testAt σ Bound))
+      (Bad 5))))
   unfolding stmt
   opened [] h = absurd (omega arith)
   opened (k ∷ bs) h = refl
@@ -40,14 +48,47 @@ module _ (top : ℕ) (σ : Seen) (body : List ℕ) (h : 0 < length body) where
   pub kind-assign : getD body 0 0 ≡ 1 → stmt top σ body ≡ field 2 (drop 1 body) (assignAt top σ)
   kind-assign e = opened body h ∙ rw (eq-eqb kind 1 e)
 
-  pub kind-assume : getD body 0 0 ≡ 2 → stmt top σ body ≡ field 2 (drop 1 body) (testAt σ Assume)
-  kind-assume e = opened body h ∙ rw (ne-eqb kind 1 (λ q. omega arith), eq-eqb kind 2 e)
+  pub kind-test : (k : Kind) → Told (σ .bounds) k → getD body 0 0 ≡ kindCode k → stmt top σ body ≡ field 2 (drop 1 body) (testAt σ k)
+  kind-test Assume t e = opened body h ∙ rw (ne-eqb kind 1 (λ q. omega arith), eq-eqb kind 2 e)
+  kind-test Assert t e = opened body h ∙ rw (ne-eqb kind 1 (λ q. omega arith), ne-eqb kind 2 (λ q. omega arith), eq-eqb kind 3 e)
+  kind-test Bound t e =
+      opened body h
+      ∙ rw (ne-eqb kind 1 (λ q. omega arith), ne-eqb kind 2 (λ q. omega arith), ne-eqb kind 3 (λ q. omega arith), t, eq-eqb kind 4 e)
 
-  pub kind-assert : getD body 0 0 ≡ 3 → stmt top σ body ≡ field 2 (drop 1 body) (testAt σ Assert)
-  kind-assert e = opened body h ∙ rw (ne-eqb kind 1 (λ q. omega arith), ne-eqb kind 2 (λ q. omega arith), eq-eqb kind 3 e)
+  pub kind-unknown : (getD body 0 0 ≡ 1 → ⊥) → knownTest (σ .bounds) (getD body 0 0) ≡ false → stmt top σ body ≡ Bad 5
+  kind-unknown a u = opened body h ∙ rw (ne-eqb kind 1 a) (go (eqb kind 2) refl (eqb kind 3) refl (eqb kind 4) refl (σ .bounds) u)
+    where
+      four : eqb (getD body 0 0) 4 ≡ true → (m : ℕ) → (m ≡ 4 → ⊥) → eqb (getD body 0 0) m ≡ true → ⊥
+      four f m n e = n (sym (eqb-true (getD body 0 0) m e) ∙ eqb-true (getD body 0 0) 4 f)
 
-  pub kind-unknown : (getD body 0 0 ≡ 1 → ⊥) → (getD body 0 0 ≡ 2 → ⊥) → (getD body 0 0 ≡ 3 → ⊥) → stmt top σ body ≡ Bad 5
-  kind-unknown a b c = opened body h ∙ rw (ne-eqb kind 1 a, ne-eqb kind 2 b, ne-eqb kind 3 c)
+      go : (x : Bool) → eqb kind 2 ≡ x → (y : Bool) → eqb kind 3 ≡ y → (z : Bool) → eqb kind 4 ≡ z → (b : Bool) → cond z b (x || y) ≡ false
+          → cond x (field 2 (drop 1 body) (testAt σ Assume)) (cond y (field 2 (drop 1 body) (testAt σ Assert))
+          (cond (b && z) (field 2 (drop 1 body) (testAt σ Bound)) (Bad 5))) ≡ Bad 5
+      go true e y f true g b u = absurd (four g 2 (λ q. omega arith) e)
+      go true e y f false g b u = absurd (let w : _≡_ {A = ℕ} 0 1 = cc in omega arith)
+      go false e true f true g b u = absurd (four g 3 (λ q. omega arith) f)
+      go false e true f false g b u = absurd (let w : _≡_ {A = ℕ} 0 1 = cc in omega arith)
+      go false e false f true g true u = absurd (let w : _≡_ {A = ℕ} 0 1 = cc in omega arith)
+      go false e false f true g false u = refl
+      go false e false f false g true u = refl
+      go false e false f false g false u = refl
+
+-- a code that is known is a kind's
+pub known-kind : (σ : Seen) (code : ℕ) → knownTest (σ .bounds) code ≡ true → (k : Kind) × Told (σ .bounds) k × (code ≡ kindCode k)
+known-kind σ code u = go (eqb code 4) refl (eqb code 2) refl (eqb code 3) refl u
+  where
+    go : (z : Bool) → eqb code 4 ≡ z → (x : Bool) → eqb code 2 ≡ x → (y : Bool) → eqb code 3 ≡ y → cond z (σ .bounds) (x || y) ≡ true
+        → (k : Kind) × Told (σ .bounds) k × (code ≡ kindCode k)
+    go true g x e y f u = (Bound, u, eqb-true code 4 g)
+    go false g true e y f u = (Assume, tt, eqb-true code 2 e)
+    go false g false e true f u = (Assert, tt, eqb-true code 3 f)
+    go false g false e false f u = absurd (let w : _≡_ {A = ℕ} 0 1 = cc in omega arith)
+
+-- no test has the code of an Assign
+pub no-assign : (k : Kind) → kindCode k ≡ 1 → ⊥
+no-assign Assume e = omega arith
+no-assign Assert e = omega arith
+no-assign Bound e = omega arith
 
 pub stmt-low : (top : ℕ) (σ : Seen) (bs : List ℕ) → Low (stmt top σ bs)
 unfolding stmt
@@ -58,10 +99,7 @@ stmt-low top σ (k ∷ bs) =
     (cond-low (leb 2 (length (drop 2 bs))) _ _
     (cond-low (leb (σ .least) (numberOf 2 (drop 2 bs)) && ltb (numberOf 2 (drop 2 bs)) top) _ _
     (holding-low (Assign (numberOf 2 bs) (numberOf 2 (drop 2 bs))) (parse Trace (σ .readable) (drop 2 (drop 2 bs)))) six) five) five)
-    (cond-low (eqb k 2) _ _ (cond-low (leb 2 (length bs)) _ _
-    (holding-low (Test Assume (numberOf 2 bs)) (parse Trace (σ .readable) (drop 2 bs))) five)
-    (cond-low (eqb k 3) _ _ (cond-low (leb 2 (length bs)) _ _
-    (holding-low (Test Assert (numberOf 2 bs)) (parse Trace (σ .readable) (drop 2 bs))) five) five))
+    (cond-low (eqb k 2) _ _ (test Assume) (cond-low (eqb k 3) _ _ (test Assert) (cond-low (σ .bounds && eqb k 4) _ _ (test Bound) five)))
   where
     five : (5 ≤ 5) × (5 ≤ 7)
     five = omega arith
@@ -69,16 +107,17 @@ stmt-low top σ (k ∷ bs) =
     six : (5 ≤ 6) × (6 ≤ 7)
     six = omega arith
 
+    test : (k : Kind) → Low (field 2 bs (testAt σ k))
+    test k = cond-low (leb 2 (length bs)) _ _ (holding-low (Test k (numberOf 2 bs)) (parse Trace (σ .readable) (drop 2 bs))) five
+
 -- ---- what a record that is read says
 
 pub data Says (top : ℕ) (σ : Seen) (body : List ℕ) : Stmt → Type 0 where
   says-assign : (e : List Token) → getD body 0 0 ≡ 1 → 5 ≤ length body → σ .least ≤ numberOf 2 (drop 3 body)
       → numberOf 2 (drop 3 body) < top
       → parse Trace (σ .readable) (drop 5 body) ≡ Whole e → Says top σ body (Assign (numberOf 2 (drop 1 body)) (numberOf 2 (drop 3 body)) e)
-  says-assume : (e : List Token) → getD body 0 0 ≡ 2 → 3 ≤ length body → parse Trace (σ .readable) (drop 3 body) ≡ Whole e
-      → Says top σ body (Test Assume (numberOf 2 (drop 1 body)) e)
-  says-assert : (e : List Token) → getD body 0 0 ≡ 3 → 3 ≤ length body → parse Trace (σ .readable) (drop 3 body) ≡ Whole e
-      → Says top σ body (Test Assert (numberOf 2 (drop 1 body)) e)
+  says-test : (k : Kind) (e : List Token) → Told (σ .bounds) k → getD body 0 0 ≡ kindCode k → 3 ≤ length body
+      → parse Trace (σ .readable) (drop 3 body) ≡ Whole e → Says top σ body (Test k (numberOf 2 (drop 1 body)) e)
 
 module _ (top : ℕ) (σ : Seen) (body : List ℕ) (h : 0 < length body) where
   abbrev rest : List ℕ
@@ -98,33 +137,25 @@ module _ (top : ℕ) (σ : Seen) (body : List ℕ) (h : 0 < length body) where
       (says-assign (w .expr) e (omega (arith, b .0, length-drop 3 body)) (leb-true (σ .least) y (u .0)) (ltb-true y top (u .1))
       (ap (parse Trace (σ .readable)) (sym (drop-drop 2 3 body)) ∙ w .parsed))
 
-  test-fields : (k : Kind) (x : Stmt) → field 2 (drop 1 body) (testAt σ k) ≡ Good x
-      → (3 ≤ length body) × ((e : List Token) × (parse Trace (σ .readable) (drop 3 body) ≡ Whole e)
-      × (x ≡ Test k (numberOf 2 (drop 1 body)) e))
-  test-fields k x q =
+  test-says : (k : Kind) → Told (σ .bounds) k → getD body 0 0 ≡ kindCode k → (x : Stmt) → field 2 (drop 1 body) (testAt σ k) ≡ Good x
+      → Says top σ body x
+  test-says k t c x q =
       let a = field-good 2 (drop 1 body) (testAt σ k) x q in
       let w = holding-good (Test k (numberOf 2 (drop 1 body))) (parse Trace (σ .readable) (drop 2 (drop 1 body))) x (a .1) in
-      (omega (arith, a .0, length-drop 1 body), (w .expr, ap (parse Trace (σ .readable)) (sym (drop-drop 2 1 body)) ∙ w .parsed, w .is))
+      subst (Says top σ body) (sym (w .is))
+      (says-test k (w .expr) t c (omega (arith, a .0, length-drop 1 body))
+      (ap (parse Trace (σ .readable)) (sym (drop-drop 2 1 body)) ∙ w .parsed))
 
   pub says : (x : Stmt) → stmt top σ body ≡ Good x → Says top σ body x
-  says x q = go (eqb (getD body 0 0) 1) refl (eqb (getD body 0 0) 2) refl (eqb (getD body 0 0) 3) refl
+  says x q = go (eqb (getD body 0 0) 1) refl (knownTest (σ .bounds) (getD body 0 0)) refl
     where
-      is : (v : ℕ) → eqb (getD body 0 0) v ≡ true → getD body 0 0 ≡ v
-      is v e = eqb-true (getD body 0 0) v e
-
-      go : (a : Bool) → eqb (getD body 0 0) 1 ≡ a → (b : Bool) → eqb (getD body 0 0) 2 ≡ b → (c : Bool) → eqb (getD body 0 0) 3 ≡ c
-          → Says top σ body x
-      go true e b f c g = set-says x (is 1 e) (sym (kind-assign top σ body h (is 1 e)) ∙ q)
-      go false e true f c g =
-          let u = test-fields Assume x (sym (kind-assume top σ body h (is 2 f)) ∙ q) in
-          subst (Says top σ body) (sym (u .1 .2)) (says-assume (u .1 .0) (is 2 f) (u .0) (u .1 .1))
-      go false e false f true g =
-          let u = test-fields Assert x (sym (kind-assert top σ body h (is 3 g)) ∙ q) in
-          subst (Says top σ body) (sym (u .1 .2)) (says-assert (u .1 .0) (is 3 g) (u .0) (u .1 .1))
-      go false e false f false g =
-          absurd (
-          let z = sym q ∙ kind-unknown top σ body h (eqb-false (getD body 0 0) 1 e) (eqb-false (getD body 0 0) 2 f)
-          (eqb-false (getD body 0 0) 3 g) in
+      go : (a : Bool) → eqb (getD body 0 0) 1 ≡ a → (b : Bool) → knownTest (σ .bounds) (getD body 0 0) ≡ b → Says top σ body x
+      go true e b f = let c = eqb-true (getD body 0 0) 1 e in set-says x c (sym (kind-assign top σ body h c) ∙ q)
+      go false e true f =
+          let k = known-kind σ (getD body 0 0) f in
+          test-says (k .0) (k .1) (k .2) x (sym (kind-test top σ body h (k .0) (k .1) (k .2)) ∙ q)
+      go false e false f =
+          absurd (let z = sym q ∙ kind-unknown top σ body h (eqb-false (getD body 0 0) 1 e) f in
           let y : _≡_ {A = ℕ} 0 1 = cc in omega arith)
 
 -- and back
@@ -135,11 +166,8 @@ said top σ body x (says-assign e k l m n p) =
     ∙ ap (assignAt top σ (numberOf 2 (drop 1 body))) (drop-drop 2 1 body)
     ∙ field-there 2 (drop 3 body) (assign top σ (numberOf 2 (drop 1 body))) (omega (arith, length-drop 3 body))
     ∙ rw (le-leb (σ .least) (numberOf 2 (drop 3 body)) m, lt-ltb (numberOf 2 (drop 3 body)) top n, drop-drop 2 3 body, p)
-said top σ body x (says-assume e k l p) =
-    kind-assume top σ body (omega arith) k ∙ field-there 2 (drop 1 body) (testAt σ Assume) (omega (arith, length-drop 1 body))
-    ∙ rw (drop-drop 2 1 body, p)
-said top σ body x (says-assert e k l p) =
-    kind-assert top σ body (omega arith) k ∙ field-there 2 (drop 1 body) (testAt σ Assert) (omega (arith, length-drop 1 body))
+said top σ body x (says-test k e t c l p) =
+    kind-test top σ body (omega arith) k t c ∙ field-there 2 (drop 1 body) (testAt σ k) (omega (arith, length-drop 1 body))
     ∙ rw (drop-drop 2 1 body, p)
 
 -- ---- where more is allowed, a record holds the same statement
@@ -148,6 +176,7 @@ pub record Wider (top : ℕ) (σ : Seen) (top′ : ℕ) (τ : Seen) : Type 0 whe
   pub higher : top ≤ top′
   pub lower : τ .least ≤ σ .least
   pub reads : (x : ℕ) → σ .readable x ≡ true → τ .readable x ≡ true
+  pub tells : σ .bounds ≡ true → τ .bounds ≡ true
 
 pub record-wider : (top : ℕ) (σ : Seen) (top′ : ℕ) (τ : Seen) → Wider top σ top′ τ → (bs : List ℕ) (x : Stmt)
     → recordOf (stmt top σ) bs ≡ Good x → recordOf (stmt top′ τ) bs ≡ Good x
@@ -161,10 +190,14 @@ record-wider top σ top′ τ w bs x g =
     more : (bs : List ℕ) (e : List Token) → parse Trace (σ .readable) bs ≡ Whole e → parse Trace (τ .readable) bs ≡ Whole e
     more bs e q = parse-more Trace (σ .readable) (τ .readable) (w .reads) 0 0 bs e q
 
+    told : (k : Kind) → Told (σ .bounds) k → Told (τ .bounds) k
+    told Assume t = tt
+    told Assert t = tt
+    told Bound t = w .tells t
+
     go : (body : List ℕ) (x : Stmt) → Says top σ body x → Says top′ τ body x
     go body x (says-assign e k l m n p) = says-assign e k l (omega (arith, w .lower)) (omega (arith, w .higher)) (more (drop 5 body) e p)
-    go body x (says-assume e k l p) = says-assume e k l (more (drop 3 body) e p)
-    go body x (says-assert e k l p) = says-assert e k l (more (drop 3 body) e p)
+    go body x (says-test k e t c l p) = says-test k e (told k t) c l (more (drop 3 body) e p)
 
 -- an assigned symbol is below the top
 pub assigned-below : (top : ℕ) (σ : Seen) (bs : List ℕ) (p y : ℕ) (e : List Token) → recordOf (stmt top σ) bs ≡ Good (Assign p y e)
@@ -177,8 +210,7 @@ assigned-below top σ bs p y e g =
   where
     go : (x : Stmt) → Says top σ (take (frame bs) (drop 2 bs)) x → x ≡ Assign p y e → y < top
     go x (says-assign e′ k l m n q) z = let w : numberOf 2 (drop 3 (take (frame bs) (drop 2 bs))) ≡ y = cc in subst (λ v. v < top) w n
-    go x (says-assume e′ k l q) z = absurd (let w : _≡_ {A = ℕ} 0 1 = cc in omega arith)
-    go x (says-assert e′ k l q) z = absurd (let w : _≡_ {A = ℕ} 0 1 = cc in omega arith)
+    go x (says-test k e′ t c l q) z = absurd (let w : _≡_ {A = ℕ} 0 1 = cc in omega arith)
 
 -- ---- where a statement stands
 
@@ -200,6 +232,7 @@ wider-after top σ w bs (Assign p x e) g = record {
   reads =
       λ y q. or-cases (eqb y x) (σ .readable y)
       (λ z. lt-ltb y symbolRoom (omega (arith, eqb-true y x z, assigned-below top σ bs p x e g, w .higher))) (w .reads y) q;
+  tells = w .tells;
 }
 wider-after top σ w bs (Test k p e) g = w
 

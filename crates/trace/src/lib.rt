@@ -7,10 +7,12 @@ ghost use Rattle.trace.specs.Answer.{JudgeAnswered};
 // Room for the symbols of any trace.
 pub const SYMBOL_ROOM: usize = 4160;
 
-// The version of a trace.
-pub const VERSION: u8 = 129;
+// The version of a trace that is written, and the one before it, which is still read.
+pub const VERSION: u8 = 130;
 
-// Document 01's answer to judging: a reply and its offset, 0 safe or 1 unsafe with its place.
+const OLD_VERSION: u8 = 129;
+
+// Document 01's answer to judging: a reply and its offset, 0 ended, 1 unsafe with its place, 2 stopped by an Assume, 3 cut by the bound.
 pub struct Answer {
     pub reply: u32,
     pub offset: u32,

@@ -1,4 +1,5 @@
 // The statements of a trace.
+use super::OLD_VERSION;
 use super::SYMBOL_ROOM;
 use super::VERSION;
 use expr::File;
@@ -11,13 +12,26 @@ ghost use lib.ListN.{length, drop, getD};
 ghost use Rattle.expr.specs.Number.{numberOf};
 ghost use Rattle.file.specs.File.{inputRoom, headerSize, recordOf};
 ghost use Rattle.file.specs.Shown.{replyOf, isGood};
-ghost use Rattle.trace.specs.Trace.{stmt, isTrace};
-ghost use Rattle.trace.specs.Shown.{symbolRoom, exprStart, exprPart, seen, leastAfter, markedBy, ReadRecords, ReadTrace};
+ghost use Rattle.trace.specs.Trace.{stmt, isTrace, tellsBound};
+ghost use Rattle.trace.specs.Shown.{symbolRoom, exprStart, exprPart, knownTest, seen, leastAfter, markedBy, ReadRecords, ReadTrace};
+
+// Whether a kind is a test's; the bound's is where `bounds` says so.
+fn known_test(kind: u8, bounds: bool) -> bool
+    ensures { λ r. ⌜ r ≡ knownTest bounds kind ⌝ }
+{
+    if kind == 4 {
+        return bounds;
+    }
+    if kind == 2 {
+        return true;
+    }
+    kind == 3
+}
 
 // A record's bytes after its length: 0, or the reply 5, 6 or 7.
-fn body_reply(body: &[u8], inputs: usize, least: usize, assigned: &[bool]) -> u8
+fn body_reply(body: &[u8], inputs: usize, least: usize, assigned: &[bool], bounds: bool) -> u8
     requires { ⌜ (0 < length (now body)) × (inputs ≤ inputRoom) ⌝ }
-    ensures { λ r. ⌜ r ≡ replyOf (stmt (inputs + 4096) (seen inputs least (now (assigned .entry))) (now (body .entry))) ⌝ }
+    ensures { λ r. ⌜ r ≡ replyOf (stmt (inputs + 4096) (seen inputs least (now (assigned .entry)) bounds) (now (body .entry))) ⌝ }
 {
     let kind = body[0];
     if kind == 1 {
@@ -33,13 +47,7 @@ fn body_reply(body: &[u8], inputs: usize, least: usize, assigned: &[bool]) -> u8
         }
         return file::expr_reply(body, 5, File::Trace, inputs, assigned);
     }
-    if kind == 2 {
-        if body.len() < 3 {
-            return 5;
-        }
-        return file::expr_reply(body, 3, File::Trace, inputs, assigned);
-    }
-    if kind == 3 {
+    if known_test(kind, bounds) {
         if body.len() < 3 {
             return 5;
         }
@@ -49,12 +57,19 @@ fn body_reply(body: &[u8], inputs: usize, least: usize, assigned: &[bool]) -> u8
 }
 
 // After the statement at a place: marks the symbol that it assigns, and gives the least that may be assigned then.
-fn learn(trace: &[u8], at: usize, inputs: usize, least: usize, assigned: &mut [bool]) -> usize
+fn learn(
+    trace: &[u8],
+    at: usize,
+    inputs: usize,
+    least: usize,
+    assigned: &mut [bool],
+    bounds: bool,
+) -> usize
     requires { ⌜ (at < 65536) × (inputs ≤ inputRoom) × (length (now assigned) ≡ symbolRoom)
-        × (isGood (recordOf (stmt (inputs + 4096) (seen inputs least (now assigned))) (drop at (now trace))) ≡ true) ⌝ }
-    ensures { λ r. ⌜ (r ≡ leastAfter (recordOf (stmt (inputs + 4096) (seen inputs least (now (assigned .entry))))
+        × (isGood (recordOf (stmt (inputs + 4096) (seen inputs least (now assigned) bounds)) (drop at (now trace))) ≡ true) ⌝ }
+    ensures { λ r. ⌜ (r ≡ leastAfter (recordOf (stmt (inputs + 4096) (seen inputs least (now (assigned .entry)) bounds))
         (drop at (now (trace .entry)))) least)
-        × (now (assigned .exit) ≡ markedBy (recordOf (stmt (inputs + 4096) (seen inputs least (now (assigned .entry))))
+        × (now (assigned .exit) ≡ markedBy (recordOf (stmt (inputs + 4096) (seen inputs least (now (assigned .entry)) bounds))
         (drop at (now (trace .entry)))) (now (assigned .entry))) ⌝ }
 {
     if trace[at + 2] == 1 {
@@ -66,10 +81,10 @@ fn learn(trace: &[u8], at: usize, inputs: usize, least: usize, assigned: &mut [b
 }
 
 // Reads the records after the header, and stores their offsets.
-fn read_records(trace: &[u8], inputs: usize, n: usize, offsets: &mut [u16]) -> Reading
+fn read_records(trace: &[u8], inputs: usize, bounds: bool, n: usize, offsets: &mut [u16]) -> Reading
     requires { ⌜ (headerSize (now trace) ≤ length (now trace)) × (length (now trace) < 65536) × (inputs ≤ inputRoom)
         × (n ≤ length (now offsets)) ⌝ }
-    ensures { λ r. ⌜ ReadRecords (now (trace .entry)) inputs n (now (offsets .entry)) (now (offsets .exit)) r ⌝ }
+    ensures { λ r. ⌜ ReadRecords (now (trace .entry)) inputs bounds n (now (offsets .entry)) (now (offsets .exit)) r ⌝ }
 {
     let mut assigned: [bool; SYMBOL_ROOM] = [false; SYMBOL_ROOM];
     let mut at = file::header_size(trace);
@@ -84,7 +99,13 @@ fn read_records(trace: &[u8], inputs: usize, n: usize, offsets: &mut [u16]) -> R
                 count: k,
             };
         }
-        let reply = body_reply(&trace[at + 2..at + (2 + len)], inputs, least, &assigned);
+        let reply = body_reply(
+            &trace[at + 2..at + (2 + len)],
+            inputs,
+            least,
+            &assigned,
+            bounds,
+        );
         if reply != 0 {
             return Reading {
                 reply: reply,
@@ -93,7 +114,7 @@ fn read_records(trace: &[u8], inputs: usize, n: usize, offsets: &mut [u16]) -> R
             };
         }
         offsets[k] = at as u16;
-        least = learn(trace, at, inputs, least, &mut assigned);
+        least = learn(trace, at, inputs, least, &mut assigned, bounds);
         at += 2 + len;
         k += 1;
     }
@@ -114,6 +135,16 @@ fn read_records(trace: &[u8], inputs: usize, n: usize, offsets: &mut [u16]) -> R
 fn is_trace(version: u8) -> bool
     ensures { λ r. ⌜ r ≡ isTrace version ⌝ }
 {
+    if version == VERSION {
+        return true;
+    }
+    version == OLD_VERSION
+}
+
+// Whether the bound's tests have a kind of their own.
+fn tells_bound(version: u8) -> bool
+    ensures { λ r. ⌜ r ≡ tellsBound version ⌝ }
+{
     version == VERSION
 }
 
@@ -122,7 +153,8 @@ pub fn read_trace(trace: &[u8], offsets: &mut [u16]) -> Reading
     requires { ⌜ 4096 ≤ length (now offsets) ⌝ }
     ensures { λ r. ⌜ ReadTrace (now (trace .entry)) (now (offsets .entry)) (now (offsets .exit)) r ⌝ }
 {
-    let known = is_trace(file::version_of(trace));
+    let version = file::version_of(trace);
+    let known = is_trace(version);
     let head = file::header_reply(trace, known, 4096);
     if head != 0 {
         return Reading {
@@ -133,7 +165,7 @@ pub fn read_trace(trace: &[u8], offsets: &mut [u16]) -> Reading
     }
     let inputs = file::inputs_of(trace);
     let n = file::count_of(trace);
-    read_records(trace, inputs, n, offsets)
+    read_records(trace, inputs, tells_bound(version), n, offsets)
 }
 
 // Where the expression begins in a record of a kind.

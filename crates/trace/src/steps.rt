@@ -10,11 +10,11 @@ ghost use Prim.Native.Nat.{_<_};
 ghost use lib.ListN.{length, drop};
 ghost use Rattle.expr.specs.Eval.{envOf};
 ghost use Rattle.file.specs.Outcome.{Failed};
-ghost use Rattle.file.specs.Shown.{isGood, listed, kindOf};
+ghost use Rattle.file.specs.Shown.{isGood, listed};
 ghost use Rattle.trace.specs.Trace.{readTrace};
 ghost use Rattle.trace.specs.Judge as Judge;
 ghost use Rattle.trace.specs.Answer.{refusal, answerOf};
-ghost use Rattle.trace.specs.Shown.{symbolRoom, held, valueIn, stepBody, Moved, endOf, Ready};
+ghost use Rattle.trace.specs.Shown.{testKind, symbolRoom, held, valueIn, stepBody, Moved, endOf, Ready};
 
 // After a statement: go on, or end with a verdict and its place.
 enum Move {
@@ -35,12 +35,15 @@ pub fn refused(reply: u32, offset: u32) -> Answer
 
 // A false test ends the judging.
 fn failed(kind: u8, place: u32) -> Move
-    ensures { λ m. ⌜ m ≡ endOf (Failed (kindOf kind) place) ⌝ }
+    ensures { λ m. ⌜ m ≡ endOf (Failed (testKind kind) place) ⌝ }
 {
     if kind == 3 {
         return Move::End(1, place);
     }
-    Move::End(0, 0)
+    if kind == 4 {
+        return Move::End(3, 0);
+    }
+    Move::End(2, 0)
 }
 
 // The value of the expression in the record at a place.

@@ -8,7 +8,7 @@ use mathlib.Core.List.{List, _++_}
 use lib.ListN.{length}
 use lib.Dec.{leb}
 use borrow.Author.Tests.{le-leb, lt-leb}
-use Rattle.file.specs.Outcome.{Assume}
+use Rattle.file.specs.Outcome.{Bound}
 use Rattle.file.specs.File.{Head, headSize, Accepted, Refused, header, recordBytes, recordsBytes, encode}
 use Rattle.file.specs.EncodeLaws.{encode-length}
 use Rattle.table.specs.Table.{Instr, readTable}
@@ -29,13 +29,13 @@ use Rattle.unwind.proofs.Copies.{bytesAt}
 
 module _ (S : ℕ) (is : List Instr) (K : ℕ) where
   abbrev ts : List Stmt
-  ts = unwind Assume S is K
+  ts = unwind Bound S is K
 
-  records-size : headSize traceVersion + length (recordsBytes stmtBytes (unwind Assume S is K)) ≡ traceSize is K
-  records-size = sym (encode-length stmtBytes (traceHead S) (unwind Assume S is K)) ∙ unwind-size Assume S is K
+  records-size : headSize traceVersion + length (recordsBytes stmtBytes (unwind Bound S is K)) ≡ traceSize is K
+  records-size = sym (encode-length stmtBytes (traceHead S) (unwind Bound S is K)) ∙ unwind-size Bound S is K
 
-  pub count-is : (n : ℕ) → length is ≡ n → length (unwind Assume S is K) ≡ 1 + (K + 1) * (n + 1)
-  count-is n q = unwind-count Assume S is K ∙ ap₂ (λ a b. 1 + a * b) (sym (add-one K)) (ap suc q ∙ sym (add-one n))
+  pub count-is : (n : ℕ) → length is ≡ n → length (unwind Bound S is K) ≡ 1 + (K + 1) * (n + 1)
+  count-is n q = unwind-count Bound S is K ∙ ap₂ (λ a b. 1 + a * b) (sym (add-one K)) (ap suc q ∙ sym (add-one n))
 
   module _ (names : List ℕ) (named : (s : ℕ) → currentOf names s ≡ s) where
     first : newestOf names S (S + 1) ≡ atFirst S
@@ -44,7 +44,7 @@ module _ (S : ℕ) (is : List Instr) (K : ℕ) where
     abbrev rest : List ℕ
     rest = bytesAt (newestOf names S (S + 1)) (places is K)
 
-    records-are : recordBytes stmtBytes (opening S) ++ rest ≡ recordsBytes stmtBytes (unwind Assume S is K)
+    records-are : recordBytes stmtBytes (opening S) ++ rest ≡ recordsBytes stmtBytes (unwind Bound S is K)
     unfolding unwind
     records-are = ap (λ c. recordBytes stmtBytes (opening S) ++ bytesAt c (places is K)) first
 
@@ -56,7 +56,7 @@ module _ (S : ℕ) (is : List Instr) (K : ℕ) where
     pub all-written : (n total count : ℕ) → length is ≡ n → total ≡ traceSize is K → count ≡ 1 + (K + 1) * (n + 1)
         → {out p q out′ : List ℕ} {a b to : ℕ} → total ≤ length out
         → Wrote out 0 (header (traceHead S) total count) p a → Wrote p a (recordBytes stmtBytes (opening S)) q b → Wrote q b rest out′ to
-        → {T : ℕ} → S ≡ T → out′ ≡ over (encodeTrace (traceHead T) (unwind Assume T is K)) out
+        → {T : ℕ} → S ≡ T → out′ ≡ over (encodeTrace (traceHead T) (unwind Bound T is K)) out
     unfolding encode
     all-written n total count l t c {out} fits v w x e =
         let head : header (traceHead S) total count
@@ -65,8 +65,8 @@ module _ (S : ℕ) (is : List Instr) (K : ℕ) where
         let bytes : header (traceHead S) total count ++ (recordBytes stmtBytes (opening S) ++ rest) ≡ encodeTrace (traceHead S) ts
         = ap₂ (λ h r. h ++ r) head records-are in
         let all : Wrote out 0 (encodeTrace (traceHead S) ts) _ _ = wrote-as bytes (v then w then x) in
-        all .buffer ∙ splice-over (encodeTrace (traceHead S) ts) out (omega (arith, t, unwind-size Assume S is K))
-        ∙ ap (λ T. over (encodeTrace (traceHead T) (unwind Assume T is K)) out) e
+        all .buffer ∙ splice-over (encodeTrace (traceHead S) ts) out (omega (arith, t, unwind-size Bound S is K))
+        ∙ ap (λ T. over (encodeTrace (traceHead T) (unwind Bound T is K)) out) e
 
 -- ---- the answer
 
@@ -84,7 +84,7 @@ module _ (s out : List ℕ) (K : ℕ) where
     abbrev S : ℕ
     S = head .inputs
 
-    opened : traceAnswer s K (length out) ≡ cond (leb K 255) (traceOf (length out) S (unwind Assume S is K)) (refusal 8 0)
+    opened : traceAnswer s K (length out) ≡ cond (leb K 255) (traceOf (length out) S (unwind Bound S is K)) (refusal 8 0)
     unfolding traceAnswer
     opened = ap (answered K (length out)) e
 
@@ -95,31 +95,31 @@ module _ (s out : List ℕ) (K : ℕ) where
       abbrev count : ℕ
       count = 1 + (K + 1) * (n + 1)
 
-      bounded : traceAnswer s K (length out) ≡ traceOf (length out) S (unwind Assume S is K)
-      bounded = opened ∙ ap (λ b. cond b (traceOf (length out) S (unwind Assume S is K)) (refusal 8 0)) (le-leb K 255 few)
+      bounded : traceAnswer s K (length out) ≡ traceOf (length out) S (unwind Bound S is K)
+      bounded = opened ∙ ap (λ b. cond b (traceOf (length out) S (unwind Bound S is K)) (refusal 8 0)) (le-leb K 255 few)
 
       abbrev bytes : List ℕ
-      bytes = encodeTrace (traceHead S) (unwind Assume S is K)
+      bytes = encodeTrace (traceHead S) (unwind Bound S is K)
 
-      size-is : (total : ℕ) → total ≡ traceSize is K → length (encodeTrace (traceHead S) (unwind Assume S is K)) ≡ total
-      size-is total t = unwind-size Assume S is K ∙ sym t
+      size-is : (total : ℕ) → total ≡ traceSize is K → length (encodeTrace (traceHead S) (unwind Bound S is K)) ≡ total
+      size-is total t = unwind-size Bound S is K ∙ sym t
 
       pub count-refuses : 4096 < 1 + (K + 1) * (n + 1) → {r : Answer} → r ≡ numbers (refusal 9 0) → TraceWritten s K out out r
       count-refuses h k =
-          answers (refusal 9 0) (bounded ∙ rw (lt-leb (length (unwind Assume S is K)) 4096 (omega (arith, count-is S is K n l)))) k refl
+          answers (refusal 9 0) (bounded ∙ rw (lt-leb (length (unwind Bound S is K)) 4096 (omega (arith, count-is S is K n l)))) k refl
 
       module _ (fit : 1 + (K + 1) * (n + 1) ≤ 4096) (total : ℕ) (t : total ≡ traceSize is K) where
-        counted : leb (length (unwind Assume S is K)) 4096 ≡ true
-        counted = le-leb (length (unwind Assume S is K)) 4096 (omega (arith, count-is S is K n l))
+        counted : leb (length (unwind Bound S is K)) 4096 ≡ true
+        counted = le-leb (length (unwind Bound S is K)) 4096 (omega (arith, count-is S is K n l))
 
         pub size-refuses : 65535 < total → {r : Answer} → r ≡ numbers (refusal 9 0) → TraceWritten s K out out r
         size-refuses h k =
             answers (refusal 9 0) (bounded ∙ rw
-            (counted, lt-leb (length (encodeTrace (traceHead S) (unwind Assume S is K))) 65535 (omega (arith, size-is total t)))) k refl
+            (counted, lt-leb (length (encodeTrace (traceHead S) (unwind Bound S is K))) 65535 (omega (arith, size-is total t)))) k refl
 
         module _ (small : total ≤ 65535) where
-          sized : leb (length (encodeTrace (traceHead S) (unwind Assume S is K))) 65535 ≡ true
-          sized = le-leb (length (encodeTrace (traceHead S) (unwind Assume S is K))) 65535 (omega (arith, size-is total t))
+          sized : leb (length (encodeTrace (traceHead S) (unwind Bound S is K))) 65535 ≡ true
+          sized = le-leb (length (encodeTrace (traceHead S) (unwind Bound S is K))) 65535 (omega (arith, size-is total t))
 
           pub room-refuses : length out < total → {r : Answer} → r ≡ numbers (refusal 10 0) → TraceWritten s K out out r
           room-refuses h k =
@@ -127,18 +127,18 @@ module _ (s out : List ℕ) (K : ℕ) where
               ∙ rw (
                 counted,
                 sized,
-                lt-leb (length (encodeTrace (traceHead S) (unwind Assume S is K))) (length out)
+                lt-leb (length (encodeTrace (traceHead S) (unwind Bound S is K))) (length out)
                     (omega (arith, size-is total t)),
               )) k refl
 
-          pub trace-written : total ≤ length out → {out′ : List ℕ} → out′ ≡ over (encodeTrace (traceHead S) (unwind Assume S is K)) out
+          pub trace-written : total ≤ length out → {out′ : List ℕ} → out′ ≡ over (encodeTrace (traceHead S) (unwind Bound S is K)) out
               → TraceWritten s K out out′ (record { reply = 0; offset = 0; length = total })
           trace-written h b =
-              answers (record { reply = 0; offset = 0; bytes = encodeTrace (traceHead S) (unwind Assume S is K) })
+              answers (record { reply = 0; offset = 0; bytes = encodeTrace (traceHead S) (unwind Bound S is K) })
               (bounded ∙ rw (
                 counted,
                 sized,
-                le-leb (length (encodeTrace (traceHead S) (unwind Assume S is K))) (length out)
+                le-leb (length (encodeTrace (traceHead S) (unwind Bound S is K))) (length out)
                     (omega (arith, size-is total t)),
               ))
               (ap {B = Answer} (λ m. record { reply = 0; offset = 0; length = m }) (sym (size-is total t))) b

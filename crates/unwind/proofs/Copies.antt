@@ -11,7 +11,7 @@ use lib.ListN.{length, drop, getD, length-drop, length-append, drop-of-length-le
 use Rattle.expr.specs.Lists.{All, drop-next}
 use Rattle.expr.specs.Number.{Byte}
 use Rattle.expr.specs.Token.{Const, Symbol}
-use Rattle.file.specs.Outcome.{Assume}
+use Rattle.file.specs.Outcome.{Bound}
 use Rattle.file.specs.File.{headerInputs, Body, recordOf, recordBytes, recordsBytes}
 use Rattle.file.specs.EncodeLaws.{records-append}
 use Rattle.file.specs.Shown.{isGood, listed}
@@ -36,7 +36,7 @@ abbrev pub newestAt : (names : List ℕ) → Front → Newest
 newestAt names f = newestOf names (f .control) (f .next)
 
 abbrev pub bytesAt : Newest → List Place → List ℕ
-bytesAt c ps = recordsBytes stmtBytes (statements Assume c ps)
+bytesAt c ps = recordsBytes stmtBytes (statements Bound c ps)
 
 advance-next : (c : Newest) (p : Place) → (advance c p) .next ≤ suc (c .next)
 advance-next c (At j (Set s e)) = omega arith
@@ -49,12 +49,12 @@ after-next c [] = omega arith
 after-next c (p ∷ ps) = omega (arith, advance-next c p, after-next (advance c p) ps)
 
 bytes-cons : (c : Newest) (p : Place) (ps : List Place) → bytesAt c (p ∷ ps) ≡ bytesAt c (p ∷ []) ++ bytesAt (advance c p) ps
-bytes-cons c p ps = ap (λ bs. bs ++ bytesAt (advance c p) ps) (sym (append-nil (recordBytes stmtBytes (statement Assume c p))))
+bytes-cons c p ps = ap (λ bs. bs ++ bytesAt (advance c p) ps) (sym (append-nil (recordBytes stmtBytes (statement Bound c p))))
 
 places-append : (c : Newest) (ps qs : List Place) → bytesAt c (ps ++ qs) ≡ bytesAt c ps ++ bytesAt (after c ps) qs
 places-append c ps qs =
-    ap (recordsBytes stmtBytes) (statements-append Assume c ps qs)
-    ∙ records-append stmtBytes (statements Assume c ps) (statements Assume (after c ps) qs)
+    ap (recordsBytes stmtBytes) (statements-append Bound c ps qs)
+    ∙ records-append stmtBytes (statements Bound c ps) (statements Bound (after c ps) qs)
 
 -- ---- one copy, from instruction i on
 
@@ -122,8 +122,8 @@ module _ {is : List Instr} {n K r : ℕ} {names₀ : List ℕ} {f₀ : Front} {o
           arith,
           ahead-room (v .wrote) l,
           ap (λ ps. length (bytesAt c ps)) only,
-          ap length (append-nil (recordBytes stmtBytes (statement Assume c (At (placeIn n r n) (Exit (endOf n K)))))),
-          exit-size Assume c (placeIn n r n) (endOf n K),
+          ap length (append-nil (recordBytes stmtBytes (statement Bound c (At (placeIn n r n) (Exit (endOf n K)))))),
+          exit-size Bound c (placeIn n r n) (endOf n K),
         )
 
     pub copy-end : (j goal : ℕ) → j ≡ r * (n + 1) + n → goal ≡ (K + 1) * (n + 1) → (out′ : List ℕ) (to′ : ℕ)
@@ -134,7 +134,7 @@ module _ {is : List Instr} {n K r : ℕ} {names₀ : List ℕ} {f₀ : Front} {o
     copy-end j goal a b out′ to′ w =
         let x : j ≡ placeIn n r n = a ∙ place-is n n r in
         let y : goal ≡ endOf n K = b ∙ ap₂ (λ s t. s * t) (add-one K) (add-one n) in
-        let z : Wrote out (g .to) (recordBytes stmtBytes (statement Assume c (At (placeIn n r n) (Exit (endOf n K))))) out′ to′
+        let z : Wrote out (g .to) (recordBytes stmtBytes (statement Bound c (At (placeIn n r n) (Exit (endOf n K))))) out′ to′
         =
         wrote-as (ap (recordBytes stmtBytes)
         (λ u. T.Assign (x u) (g .next) (guarded (g .control) (x u) (Const (y u) ∷ []) (Symbol (g .control))))) w in

@@ -13,7 +13,7 @@ use Rattle.expr.specs.Word.{Zero, Ule}
 use Rattle.expr.specs.Token.{Token, Const, Symbol, Un, Bin, Ite, tokenBytes, exprBytes}
 use Rattle.expr.specs.TokenLaws.{bytes-append}
 use Rattle.expr.specs.Eval.{renameToken, rename}
-use Rattle.file.specs.Outcome.{Assume, Assert}
+use Rattle.file.specs.Outcome.{Assume, Assert, Bound}
 use Rattle.file.specs.File.{recordBytes}
 use Rattle.file.specs.Shown.{kindOf}
 use Rattle.trace.specs.Trace.{Stmt, Assign, Test, kindCode, stmtBytes}
@@ -66,10 +66,10 @@ module _ (w j : ℕ) (e : List Token) where
       code true q = sym (eqb-true kind 3 q)
       code false q = let d : kind ≡ 3 → ⊥ = eqb-false kind 3 q in omega (arith, d)
 
-  pub bound-bytes : (f : ℕ → ℕ) → stmtBytes (Test Assume j (guarded w j (rename f (e ++ Un Zero ∷ [])) (Const 1)))
-      ≡ (2 ∷ bytesOf 2 j) ++ (guard ++ (exprBytes Trace (rename f e) ++ ((0x12 ∷ []) ++ exprBytes Trace (Const 1 ∷ Ite ∷ []))))
+  pub bound-bytes : (f : ℕ → ℕ) → stmtBytes (Test Bound j (guarded w j (rename f (e ++ Un Zero ∷ [])) (Const 1)))
+      ≡ (4 ∷ bytesOf 2 j) ++ (guard ++ (exprBytes Trace (rename f e) ++ ((0x12 ∷ []) ++ exprBytes Trace (Const 1 ∷ Ite ∷ []))))
   bound-bytes f =
-      ap (λ bs. (2 ∷ bytesOf 2 j) ++ bs)
+      ap (λ bs. (4 ∷ bytesOf 2 j) ++ bs)
       (guarded-bytes w j (rename f (e ++ Un Zero ∷ [])) (Const 1)
       ∙ ap (λ ts. guard ++ (exprBytes Trace ts ++ exprBytes Trace (Const 1 ∷ Ite ∷ []))) (map-append (renameToken f) e (Un Zero ∷ []))
       ∙ ap (λ bs. guard ++ (bs ++ exprBytes Trace (Const 1 ∷ Ite ∷ []))) (bytes-append Trace (rename f e) (Un Zero ∷ []))

@@ -54,9 +54,9 @@ current-set names s v h = fun-ext (λ x. go x (eqb x s) refl)
 -- ---- one place
 
 pub written-one : {c : Newest} {p : Place} {out : List ℕ} {to : ℕ} {out′ names′ : List ℕ} {f : Front}
-    → Wrote out to (recordBytes stmtBytes (statement Assume c p)) out′ (f .to)
+    → Wrote out to (recordBytes stmtBytes (statement Bound c p)) out′ (f .to)
     → newestOf names′ (f .control) (f .next) ≡ advance c p → Written c (p ∷ []) out to out′ names′ f
-written-one {c} {p} w e = record { wrote = wrote-as (sym (append-nil (recordBytes stmtBytes (statement Assume c p)))) w; newest = e }
+written-one {c} {p} w e = record { wrote = wrote-as (sym (append-nil (recordBytes stmtBytes (statement Bound c p)))) w; newest = e }
 
 last-copy : (r K : ℕ) → ltb r K ≡ not (not (ltb r K))
 last-copy r K = go (ltb r K)
@@ -77,19 +77,19 @@ module _ {n : ℕ} {s : List ℕ} {at : ℕ} (names : List ℕ) (h : Held (lengt
 
   -- the room for an instruction, by its form
   room-for : (x : Instr) → h .instruction ≡ x → (to m : ℕ)
-      → to + length (recordsBytes stmtBytes (statements Assume c (placeOf n K r i rec ∷ []))) ≤ m
+      → to + length (recordsBytes stmtBytes (statements Bound c (placeOf n K r i rec ∷ []))) ≤ m
       → to + instrSize (not (ltb r K)) i x ≤ m
   room-for x q to m l =
-      let a : length (recordsBytes stmtBytes (statements Assume c (placeOf n K r i rec ∷ []))) ≡ instrSize (not (ltb r K)) i x
-      = ap (λ b. length (recordsBytes stmtBytes (statements Assume c (placeOf n K r i b ∷ [])))) (h .is ∙ ap {B = Body Instr} Good q)
-      ∙ ap length (append-nil (recordBytes stmtBytes (statement Assume c (At (placeIn n r i) (actionIn n K r i x)))))
-      ∙ statement-size Assume c (placeIn n r i) n K r i (not (ltb r K)) x (last-copy r K) in
+      let a : length (recordsBytes stmtBytes (statements Bound c (placeOf n K r i rec ∷ []))) ≡ instrSize (not (ltb r K)) i x
+      = ap (λ b. length (recordsBytes stmtBytes (statements Bound c (placeOf n K r i b ∷ [])))) (h .is ∙ ap {B = Body Instr} Good q)
+      ∙ ap length (append-nil (recordBytes stmtBytes (statement Bound c (At (placeIn n r i) (actionIn n K r i x)))))
+      ∙ statement-size Bound c (placeIn n r i) n K r i (not (ltb r K)) x (last-copy r K) in
       omega (arith, a)
 
   -- the record of an instruction, by its form and what stands at its place
   by-form : (x : Instr) → h .instruction ≡ x → (a : Action) → actionIn n K r i x ≡ a
       → {out : List ℕ} {to : ℕ} {out′ names′ : List ℕ} {f : Front}
-      → Wrote out to (recordBytes stmtBytes (statement Assume c (At (placeIn n r i) a))) out′ (f .to)
+      → Wrote out to (recordBytes stmtBytes (statement Bound c (At (placeIn n r i) a))) out′ (f .to)
       → newestOf names′ (f .control) (f .next) ≡ advance c (At (placeIn n r i) a) → Written c (placeOf n K r i rec ∷ []) out to out′ names′
       f
   by-form x q a z {out} {to} {out′} {names′} {f} v k =
@@ -113,7 +113,7 @@ module _ {n : ℕ} {s : List ℕ} {at : ℕ} (names : List ℕ) (h : Held (lengt
 
     -- an Assign
     module _ (kind : getD s (at + 2) 0 ≡ 1) where
-      pub assign-room : (to m : ℕ) → to + length (recordsBytes stmtBytes (statements Assume c (placeOf n K r i rec ∷ []))) ≤ m
+      pub assign-room : (to m : ℕ) → to + length (recordsBytes stmtBytes (statements Bound c (placeOf n K r i rec ∷ []))) ≤ m
           → to + (20 + exprSize (tokensOf (parse Table (below (length names)) part))) ≤ m
       assign-room to m l =
           omega (arith, room-for (Assign (numberOf 1 (drop (at + 3) s)) e) (h .assigns kind .0) to m l, ap exprSize tokens-are)
@@ -138,7 +138,7 @@ module _ {n : ℕ} {s : List ℕ} {at : ℕ} (names : List ℕ) (h : Held (lengt
 
     -- an Assume or an Assert
     module _ (not-assign : getD s (at + 2) 0 ≡ 1 → ⊥) (not-jump : getD s (at + 2) 0 ≡ 4 → ⊥) where
-      pub test-room : (to m : ℕ) → to + length (recordsBytes stmtBytes (statements Assume c (placeOf n K r i rec ∷ []))) ≤ m
+      pub test-room : (to m : ℕ) → to + length (recordsBytes stmtBytes (statements Bound c (placeOf n K r i rec ∷ []))) ≤ m
           → to + (20 + exprSize (tokensOf (parse Table (below (length names)) part))) ≤ m
       test-room to m l =
           omega (arith, room-for (Test (kindOf (getD s (at + 2) 0)) e) (h .tests not-assign not-jump) to m l, ap exprSize tokens-are)
@@ -150,12 +150,12 @@ module _ {n : ℕ} {s : List ℕ} {at : ℕ} (names : List ℕ) (h : Held (lengt
           → Written c (placeOf n K r i rec ∷ []) out to out′ names (record { control = w; next = new; to = to′ })
       test-written j a v =
           let p : j ≡ placeIn n r i = here j a in
-          let k : kindOf (getD s (at + 2) 0) ≡ becomes Assume (kindOf (getD s (at + 2) 0)) = same (eqb (getD s (at + 2) 0) 3) in
+          let k : kindOf (getD s (at + 2) 0) ≡ becomes Bound (kindOf (getD s (at + 2) 0)) = same (eqb (getD s (at + 2) 0) 3) in
           by-form (Test (kindOf (getD s (at + 2) 0)) e) (h .tests not-assign not-jump) (Check (kindOf (getD s (at + 2) 0)) e) refl
           (wrote-as (ap (recordBytes stmtBytes)
           (λ q. T.Test (k q) (p q) (guarded w (p q) (rename (currentOf names) (tokens-are q)) (Const 1)))) v) refl
         where
-          same : (b : Bool) → cond b Assert Assume ≡ becomes Assume (cond b Assert Assume)
+          same : (b : Bool) → cond b Assert Assume ≡ becomes Bound (cond b Assert Assume)
           same true = refl
           same false = refl
 
@@ -179,13 +179,13 @@ module _ {n : ℕ} {s : List ℕ} {at : ℕ} (names : List ℕ) (h : Held (lengt
           (λ q. record { current = currentOf names; control = new; next = add-one new q })
 
       room-of : (k : ℕ) → cond (not (ltb r K) && leb t i) 21 29 ≡ k → (to m : ℕ)
-          → to + length (recordsBytes stmtBytes (statements Assume c (placeOf n K r i rec ∷ []))) ≤ m
+          → to + length (recordsBytes stmtBytes (statements Bound c (placeOf n K r i rec ∷ []))) ≤ m
           → to + (k + exprSize (tokensOf (parse Table (below (length names)) part))) ≤ m
       room-of k z to m l = omega (arith, room-for (IfThenGoto t e) jumps to m l, ap exprSize tokens-are, z)
 
       -- forward
       module _ (d : i < t) where
-        pub forward-room : (to m : ℕ) → to + length (recordsBytes stmtBytes (statements Assume c (placeOf n K r i rec ∷ []))) ≤ m
+        pub forward-room : (to m : ℕ) → to + length (recordsBytes stmtBytes (statements Bound c (placeOf n K r i rec ∷ []))) ≤ m
             → to + (29 + exprSize (tokensOf (parse Table (below (length names)) part))) ≤ m
         forward-room to m l = room-of 29 (rw (lt-leb t i d) (early (not (ltb r K)))) to m l
           where
@@ -203,7 +203,7 @@ module _ {n : ℕ} {s : List ℕ} {at : ℕ} (names : List ℕ) (h : Held (lengt
 
       -- back, into the next copy
       module _ (d : t ≤ i) (l : r < K) where
-        pub back-room : (to m : ℕ) → to + length (recordsBytes stmtBytes (statements Assume c (placeOf n K r i rec ∷ []))) ≤ m
+        pub back-room : (to m : ℕ) → to + length (recordsBytes stmtBytes (statements Bound c (placeOf n K r i rec ∷ []))) ≤ m
             → to + (29 + exprSize (tokensOf (parse Table (below (length names)) part))) ≤ m
         back-room to m q = room-of 29 (rw (lt-ltb r K l)) to m q
 
@@ -219,17 +219,17 @@ module _ {n : ℕ} {s : List ℕ} {at : ℕ} (names : List ℕ) (h : Held (lengt
 
       -- back, in the last copy
       module _ (d : t ≤ i) (l : K ≤ r) where
-        pub bound-room : (to m : ℕ) → to + length (recordsBytes stmtBytes (statements Assume c (placeOf n K r i rec ∷ []))) ≤ m
+        pub bound-room : (to m : ℕ) → to + length (recordsBytes stmtBytes (statements Bound c (placeOf n K r i rec ∷ []))) ≤ m
             → to + (21 + exprSize (tokensOf (parse Table (below (length names)) part))) ≤ m
         bound-room to m q = room-of 21 (rw (le-leb t i d, le-ltb r K l)) to m q
 
         pub bound-written : (j : ℕ) → j ≡ r * (n + 1) + i → {out : List ℕ} {to : ℕ} {out′ : List ℕ} {to′ : ℕ}
             → Wrote out to (recordBytes stmtBytes
-            (T.Test Assume j (guarded w j
+            (T.Test Bound j (guarded w j
             (rename (currentOf names) (tokensOf (parse Table (below (length names)) part) ++ Un Zero ∷ [])) (Const 1)))) out′ to′
             → Written c (placeOf n K r i rec ∷ []) out to out′ names (record { control = w; next = new; to = to′ })
         bound-written j a v =
             let p : j ≡ placeIn n r i = here j a in
             by-form (IfThenGoto t e) jumps (Check Bound (e ++ Un Zero ∷ [])) (rw (le-leb t i d, le-ltb r K l))
             (wrote-as (ap (recordBytes stmtBytes)
-            (λ q. T.Test Assume (p q) (guarded w (p q) (rename (currentOf names) (tokens-are q ++ Un Zero ∷ [])) (Const 1)))) v) refl
+            (λ q. T.Test Bound (p q) (guarded w (p q) (rename (currentOf names) (tokens-are q ++ Un Zero ∷ [])) (Const 1)))) v) refl

@@ -13,7 +13,7 @@ use Rattle.expr.specs.Lists.{All}
 use Rattle.expr.specs.Token.{Const}
 use Rattle.expr.specs.Eval.{Env, envOf, update}
 use Rattle.expr.specs.EvalLaws.{value-top, update-same, update-other}
-use Rattle.file.specs.Outcome.{Kind, Assume, Assert, Bound, Outcome, Ended, Failed, Lost, verdict, placeOf}
+use Rattle.file.specs.Outcome.{Kind, Assume, Assert, Bound, Outcome, Ended, Failed, Lost}
 use Rattle.table.specs.Table.{Instr}
 use Rattle.table.specs.TableLaws.{InstrOk}
 use Rattle.table.specs.Run.{run}
@@ -35,7 +35,8 @@ first-mirrors S ρ = record {
   control-old = omega arith;
 }
 
--- as the trace shows it, with the reason and the place
+-- as the trace shows it, with the reason and the place: with an Assume for the bound's test, as version 129 has it, a run that is cut
+-- shows as stopped
 pub judge-unwind : (cut : Kind) (S : ℕ) (is : List Instr) (K : ℕ) (words : List ℕ) → All (InstrOk S (length is)) is
     → judge (unwind cut S is K) (envOf words) ≡ shownAs cut ((run is K words) .outcome)
 unfolding unwind judge
@@ -56,19 +57,3 @@ judge-unwind-cut S is K words o = judge-unwind Bound S is K words o ∙ shown-sa
     shown-same (Failed Assert p) = refl
     shown-same (Failed Bound p) = refl
     shown-same Lost = refl
-
--- with document 01's Assume for it, the verdict and its place
-pub unwind-verdict : (S : ℕ) (is : List Instr) (K : ℕ) (words : List ℕ) → All (InstrOk S (length is)) is
-    → (verdict (judge (unwind Assume S is K) (envOf words)) ≡ verdict ((run is K words) .outcome))
-    × (placeOf (judge (unwind Assume S is K) (envOf words)) ≡ placeOf ((run is K words) .outcome))
-unwind-verdict S is K words o =
-    let judged = judge-unwind Assume S is K words o in
-    let shown = shown-verdict ((run is K words) .outcome) in
-    (ap verdict judged ∙ shown .0, ap placeOf judged ∙ shown .1)
-  where
-    shown-verdict : (x : Outcome) → (verdict (shownAs Assume x) ≡ verdict x) × (placeOf (shownAs Assume x) ≡ placeOf x)
-    shown-verdict Ended = (refl, refl)
-    shown-verdict (Failed Assume p) = (refl, refl)
-    shown-verdict (Failed Assert p) = (refl, refl)
-    shown-verdict (Failed Bound p) = (refl, refl)
-    shown-verdict Lost = (refl, refl)

@@ -5,7 +5,7 @@ use mathlib.Core.Bool.{cond, _&&_}
 use mathlib.Core.List.{List, []}
 use lib.ListN.{length}
 use lib.Dec.{leb}
-use Rattle.file.specs.Outcome.{Assume}
+use Rattle.file.specs.Outcome.{Bound}
 use Rattle.file.specs.File.{Input, Accepted, Refused}
 use Rattle.table.specs.Table.{Instr, readTable}
 use Rattle.trace.specs.Trace.{Stmt, traceHead, encodeTrace}
@@ -31,10 +31,10 @@ fitting room count bytes =
 abbrev pub traceOf : (room S : ℕ) → List Stmt → Traced
 traceOf room S ts = fitting room (length ts) (encodeTrace (traceHead S) ts)
 
--- after the table's own refusals 8, then 9 and 10; the bound's tests are Assumes
+-- after the table's own refusals 8, then 9 and 10; the bound's tests have their own kind
 abbrev pub answered : (K room : ℕ) → Input Instr → Traced
 answered K room (Refused reply offset) = refusal reply offset
-answered K room (Accepted head is) = cond (leb K 255) (traceOf room (head .inputs) (unwind Assume (head .inputs) is K)) (refusal 8 0)
+answered K room (Accepted head is) = cond (leb K 255) (traceOf room (head .inputs) (unwind Bound (head .inputs) is K)) (refusal 8 0)
 
 unfoldable pub traceAnswer : (table : List ℕ) (K room : ℕ) → Traced
 traceAnswer table K room = answered K room (readTable table)

@@ -9,7 +9,7 @@ use lib.Dec.{leb}
 use borrow.Author.Tests.{leb-true}
 use Rattle.expr.specs.Lists.{All, and-both}
 use Rattle.expr.specs.Number.{Byte}
-use Rattle.file.specs.Outcome.{Assume}
+use Rattle.file.specs.Outcome.{Bound}
 use Rattle.file.specs.File.{Head, Input, Accepted, Refused}
 use Rattle.table.specs.Table.{Instr, readTable}
 use Rattle.table.specs.TableLaws.{table-refused-positive, table-ok}
@@ -22,13 +22,13 @@ use Rattle.unwind.specs.Answer.{Traced, refusal, answered, traceAnswer}
 pub record IsTrace (b : List ℕ) (K : ℕ) (head : Head) (is : List Instr) (t : List ℕ) : Type 0 where
   pub accepted : readTable b ≡ Accepted head is
   pub bound : K ≤ 255
-  pub count : length (unwind Assume (head .inputs) is K) ≤ 4096
-  pub total : length (encodeTrace (traceHead (head .inputs)) (unwind Assume (head .inputs) is K)) ≤ 65535
-  pub bytes : t ≡ encodeTrace (traceHead (head .inputs)) (unwind Assume (head .inputs) is K)
+  pub count : length (unwind Bound (head .inputs) is K) ≤ 4096
+  pub total : length (encodeTrace (traceHead (head .inputs)) (unwind Bound (head .inputs) is K)) ≤ 65535
+  pub bytes : t ≡ encodeTrace (traceHead (head .inputs)) (unwind Bound (head .inputs) is K)
 
 module _ (b : List ℕ) (K : ℕ) (head : Head) (is : List Instr) where
   abbrev ts : List Stmt
-  ts = unwind Assume (head .inputs) is K
+  ts = unwind Bound (head .inputs) is K
 
   abbrev bytes : List ℕ
   bytes = encodeTrace (traceHead (head .inputs)) ts
@@ -67,12 +67,12 @@ trace-written b K room h = go (readTable b) refl h
       head,
       is,
       tests-passed b K head is q (leb K 255) refl _ refl
-          (leb (length (encodeTrace (traceHead (head .inputs)) (unwind Assume (head .inputs) is K))) room) h,
+          (leb (length (encodeTrace (traceHead (head .inputs)) (unwind Bound (head .inputs) is K))) room) h,
     )
 
 -- reading gives back what was written
 pub trace-read : (b : List ℕ) (K : ℕ) (head : Head) (is : List Instr) (t : List ℕ) → All Byte b → IsTrace b K head is t
-    → readTrace t ≡ Accepted (traceHead (head .inputs)) (unwind Assume (head .inputs) is K)
+    → readTrace t ≡ Accepted (traceHead (head .inputs)) (unwind Bound (head .inputs) is K)
 trace-read b K head is t o w =
     let table = table-ok b head is o (w .accepted) in
     ap readTrace (w .bytes) ∙ unwind-accepted (head .inputs) is K (table .ok) (table .inputs) (w .count) (w .total)

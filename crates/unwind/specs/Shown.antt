@@ -9,7 +9,7 @@ use Rattle.expr.specs.declared.File.the-variants.{Trace}
 use Rattle.expr.specs.Token.{Token, tokenBytes}
 use Rattle.expr.specs.Expr.{below}
 use Rattle.expr.specs.Eval.{renameToken}
-use Rattle.file.specs.Outcome.{Assume}
+use Rattle.file.specs.Outcome.{Bound}
 use Rattle.file.specs.File.{inputRoom, Body, Good, Bad, recordsBytes}
 use Rattle.table.specs.Table.{Instr}
 use Rattle.table.specs.Run.{placeIn}
@@ -50,7 +50,7 @@ placeOf n K r i (Bad reply) = At (placeIn n r i) (Exit 0)
 
 -- places written from `to` on: their records, and the newest symbols then
 pub record Written (c : Newest) (ps : List Place) (out : List ℕ) (to : ℕ) (out′ names′ : List ℕ) (f : Front) : Type 0 where
-  pub wrote : Wrote out to (recordsBytes stmtBytes (statements Assume c ps)) out′ (f .to)
+  pub wrote : Wrote out to (recordsBytes stmtBytes (statements Bound c ps)) out′ (f .to)
   pub newest : newestOf names′ (f .control) (f .next) ≡ after c ps
 
 -- ---- sizes

@@ -112,8 +112,13 @@ module _ (cut : Kind) where
       copy-then c (length is) K r false is (copiesFrom is K (suc m) (suc r)) (lt-ltb r K (omega arith))
       ∙ (omega (arith, copies-size (after c (copyFrom (length is) K r 0 is)) is K m (suc r) (omega arith)))
 
-  pub unwind-size : (S : ℕ) (is : List Instr) (K : ℕ) → length (encodeTrace (traceHead S) (unwind cut S is K)) ≡ traceSize is K
+  -- whatever kind the bound's tests have
+  pub records-size : (S : ℕ) (is : List Instr) (K : ℕ)
+      → length (recordsBytes stmtBytes (unwind cut S is K)) ≡ 12 + (K * copySize false 0 is + copySize true 0 is)
   unfolding unwind places
+  records-size S is K = omega (arith, copies-size (atFirst S) is K K 0 (omega arith))
+
+  pub unwind-size : (S : ℕ) (is : List Instr) (K : ℕ) → length (encodeTrace (traceHead S) (unwind cut S is K)) ≡ traceSize is K
   unwind-size S is K =
       let l = encode-length stmtBytes (traceHead S) (unwind cut S is K) in
-      omega (arith, l, copies-size (atFirst S) is K K 0 (omega arith))
+      omega (arith, l, records-size S is K)

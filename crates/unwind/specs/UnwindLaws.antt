@@ -19,14 +19,16 @@ use Rattle.expr.specs.Expr.{below, pops, fits}
 use Rattle.expr.specs.ExprLaws.{fits-is, fits-const, fits-symbol, fits-operator, Ok, ok-append, ok-rename}
 use Rattle.expr.specs.Eval.{renameToken, rename}
 use Rattle.file.specs.Outcome.{Kind, Assume, Assert, Bound}
-use Rattle.file.specs.File.{inputRoom, Accepted}
+use Rattle.file.specs.File.{Head, inputRoom, inputsLimit, Accepted}
 use Rattle.file.specs.FileLaws.{symbols-in-two-bytes}
 use Rattle.table.specs.Table.{Instr, Assign, Test, IfThenGoto}
 use Rattle.table.specs.Run.{placeIn}
 use Rattle.table.specs.TableLaws.{ExprOk as TableExprOk, InstrOk}
-use Rattle.trace.specs.Trace.{Stmt, Seen, atFirst as seenFirst, see, traceHead, encodeTrace, readTrace}
-use Rattle.trace.specs.WellFormed.{Told, ExprOk, StmtsOk}
-use Rattle.trace.specs.EncodeLaws.{read-encode, room-written, trace-known}
+use Rattle.trace.specs.Trace.{Stmt, Seen, atFirst as seenFirst, see, isTrace, tellsBound, traceHead, encodeTrace}
+use Rattle.trace.specs.Trace.{readTrace}
+use Rattle.trace.specs.TraceLaws.{Told}
+use Rattle.trace.specs.WellFormed.{ExprOk, StmtsOk}
+use Rattle.trace.specs.EncodeLaws.{read-encode, room-written, trace-known, written-tells}
 use Rattle.unwind.specs.Places.{Action, Set, Check, Jump, Exit, Place, At, endOf, jumpIn, actionIn, copyFrom, copiesFrom, places}
 use Rattle.unwind.specs.Unwind.{Newest, guarded, becomes, statement, makesCurrent, makesControl, advance, statements, atFirst}
 use Rattle.unwind.specs.Unwind.{opening, unwind}
@@ -163,8 +165,8 @@ pub record Known (S : ℕ) (c : Newest) (σ : Seen) : Type 0 where
   pub control-old : c .control < c .next
   pub next-new : σ .least ≤ c .next
 
-known-first : (S : ℕ) → Known S (atFirst S) (see (seenFirst S) (opening S))
-known-first S = record {
+known-first : (head : Head) → Known (head .inputs) (atFirst (head .inputs)) (see (seenFirst head) (opening (head .inputs)))
+known-first head = let S = head .inputs in record {
   current-read = λ s q. or-right (eqb s S) (below S s) q;
   current-old = λ s q. omega (arith, ltb-true s S q);
   control-read = or-left (eqb S S) (below S S) (eq-eqb S S refl);
@@ -174,7 +176,7 @@ known-first S = record {
 
 -- after the Assign of the next new symbol
 abbrev learnt : Newest → Seen → Seen
-learnt c σ = record { readable = λ y. eqb y (c .next) || σ .readable y; least = suc (c .next) }
+learnt c σ = record { readable = λ y. eqb y (c .next) || σ .readable y; least = suc (c .next); bounds = σ .bounds }
 
 module _ (S : ℕ) (c : Newest) (σ : Seen) (k : Known S c σ) where
   known-current : (s : ℕ) → Known S (makesCurrent c s) (learnt c σ)
@@ -205,12 +207,12 @@ module _ (S : ℕ) (c : Newest) (σ : Seen) (k : Known S c σ) where
 
 -- ---- the statements are well formed
 
-becomes-told : (cut : Kind) → Told cut → (k : Kind) → Told (becomes cut k)
-becomes-told cut h Assume = tt
-becomes-told cut h Assert = tt
-becomes-told cut h Bound = h
+becomes-told : (b : Bool) (cut : Kind) → Told b cut → (k : Kind) → Told b (becomes cut k)
+becomes-told b cut h Assume = tt
+becomes-told b cut h Assert = tt
+becomes-told b cut h Bound = h
 
-module _ (cut : Kind) (told : Told cut) (S limit : ℕ) (few : S + 4096 ≤ 65536) (short : limit < 65536) where
+module _ (cut : Kind) (S limit : ℕ) (few : S + 4096 ≤ 65536) (short : limit < 65536) where
   module _ (c : Newest) (σ : Seen) (k : Known S c σ) (room : c .next < 65536) where
     control-small : c .control < 65536
     control-small = omega (arith, k .control-old)
@@ -263,18 +265,19 @@ module _ (cut : Kind) (told : Told cut) (S limit : ℕ) (few : S + 4096 ≤ 6553
     exit-body-ok : (g : ℕ) → g ≤ limit → Ok (σ .readable) 17 1 2 (Const g ∷ []) × All (Holds Trace) (Const g ∷ [])
     exit-body-ok g l = ((fits-const (σ .readable) g (omega arith), refl), ((omega arith), tt))
 
-  pub statements-ok : (ps : List Place) (c : Newest) (σ : Seen) → All (PlaceOk S limit) ps → Known S c σ → c .next + length ps ≤ S + 4096
+  pub statements-ok : (ps : List Place) (c : Newest) (σ : Seen) → Told (σ .bounds) cut → All (PlaceOk S limit) ps → Known S c σ
+      → c .next + length ps ≤ S + 4096
       → StmtsOk S σ (statements cut c ps)
-  statements-ok [] c σ o k h = tt
-  statements-ok (At j (Set s e) ∷ ps) c σ o k h = (
+  statements-ok [] c σ told o k h = tt
+  statements-ok (At j (Set s e) ∷ ps) c σ told o k h = (
     ((omega arith), k .next-new, (omega arith), set-ok c σ k (omega arith) j s e (o .0 .0) (o .0 .1 .0) (o .0 .1 .1)),
-    statements-ok ps (makesCurrent c s) (learnt c σ) (o .1) (known-current S c σ k s) (omega arith),
+    statements-ok ps (makesCurrent c s) (learnt c σ) told (o .1) (known-current S c σ k s) (omega arith),
   )
-  statements-ok (At j (Check x e) ∷ ps) c σ o k h = (
-    ((omega arith), becomes-told cut told x, check-ok c σ k (omega arith) j e (o .0 .0) (o .0 .1)),
-    statements-ok ps c σ (o .1) k (omega arith),
+  statements-ok (At j (Check x e) ∷ ps) c σ told o k h = (
+    ((omega arith), becomes-told (σ .bounds) cut told x, check-ok c σ k (omega arith) j e (o .0 .0) (o .0 .1)),
+    statements-ok ps c σ told (o .1) k (omega arith),
   )
-  statements-ok (At j (Jump g e) ∷ ps) c σ o k h =
+  statements-ok (At j (Jump g e) ∷ ps) c σ told o k h =
       let b = jump-body-ok c σ k (omega arith) g e (o .0 .1 .0) (o .0 .1 .1) in (
         (
           (omega arith),
@@ -282,39 +285,46 @@ module _ (cut : Kind) (told : Told cut) (S limit : ℕ) (few : S + 4096 ≤ 6553
           (omega arith),
           moves-ok c σ k (omega arith) j (rename (c .current) e ++ Const g ∷ Symbol (c .control) ∷ Ite ∷ []) (o .0 .0) (b .0) (b .1),
         ),
-        statements-ok ps (makesControl c) (learnt c σ) (o .1) (known-control S c σ k) (omega arith),
+        statements-ok ps (makesControl c) (learnt c σ) told (o .1) (known-control S c σ k) (omega arith),
       )
-  statements-ok (At j (Exit g) ∷ ps) c σ o k h =
+  statements-ok (At j (Exit g) ∷ ps) c σ told o k h =
       let b = exit-body-ok c σ k (omega arith) g (o .0 .1) in (
         ((omega arith), k .next-new, (omega arith), moves-ok c σ k (omega arith) j (Const g ∷ []) (o .0 .0) (b .0) (b .1)),
-        statements-ok ps (makesControl c) (learnt c σ) (o .1) (known-control S c σ k) (omega arith),
+        statements-ok ps (makesControl c) (learnt c σ) told (o .1) (known-control S c σ k) (omega arith),
       )
 
-pub unwind-well-formed : (cut : Kind) → Told cut → (S : ℕ) (is : List Instr) (K : ℕ) → All (InstrOk S (length is)) is → S ≤ inputRoom
-    → length (unwind cut S is K) ≤ 4096
-    → StmtsOk S (seenFirst S) (unwind cut S is K)
+-- in every version that tells the kind of the bound's tests
+pub unwind-well-formed : (cut : Kind) (head : Head) → Told (tellsBound (head .version)) cut → (is : List Instr) (K : ℕ)
+    → All (InstrOk (head .inputs) (length is)) is → head .inputs ≤ inputRoom → length (unwind cut (head .inputs) is K) ≤ 4096
+    → StmtsOk (head .inputs) (seenFirst head) (unwind cut (head .inputs) is K)
 unfolding unwind
-unwind-well-formed cut told S is K o few count =
-    let l : length (unwind cut S is K) ≡ 1 + endOf (length is) K = unwind-count cut S is K in
+unwind-well-formed cut head told is K o few count =
+    let S = head .inputs in
+    let l : length (unwind cut (head .inputs) is K) ≡ 1 + endOf (length is) K = unwind-count cut S is K in
     let m : endOf (length is) K < 65536 = omega arith in (
       ((omega arith), (omega arith), (omega arith), ((fits-const (below S) 0 (omega arith), refl), ((omega arith), tt))),
-      statements-ok cut told S (endOf (length is) K) (omega (arith, symbols-in-two-bytes)) m (places is K) (atFirst S)
-          (see (seenFirst S) (opening S)) (places-ok S is K o)
-          (known-first S)
-          (omega (arith, places-count is K)),
+      statements-ok cut S (endOf (length is) K) (omega (arith, symbols-in-two-bytes)) m (places is K) (atFirst S)
+          (see (seenFirst head) (opening S)) told (places-ok S is K o) (known-first head) (omega (arith, places-count is K)),
     )
 
-pub unwind-ok : (S : ℕ) (is : List Instr) (K : ℕ) → All (InstrOk S (length is)) is → S ≤ inputRoom → length (unwind Assume S is K) ≤ 4096
-    → StmtsOk S (seenFirst S) (unwind Assume S is K)
-unwind-ok S is K o few count = unwind-well-formed Assume tt S is K o few count
+pub unwind-ok : (S : ℕ) (is : List Instr) (K : ℕ) → All (InstrOk S (length is)) is → S ≤ inputRoom → length (unwind Bound S is K) ≤ 4096
+    → StmtsOk S (seenFirst (traceHead S)) (unwind Bound S is K)
+unwind-ok S is K o few count = unwind-well-formed Bound (traceHead S) (written-tells S) is K o few count
 
 -- ---- read again
 
 -- the trace of a well-formed table, within the limits, is accepted as what it is
+pub unwind-read : (cut : Kind) (head : Head) → Told (tellsBound (head .version)) cut → isTrace (head .version) ≡ true
+    → inputRoom ≤ inputsLimit (head .version) → (is : List Instr) (K : ℕ) → All (InstrOk (head .inputs) (length is)) is
+    → head .inputs ≤ inputRoom → length (unwind cut (head .inputs) is K) ≤ 4096
+    → length (encodeTrace head (unwind cut (head .inputs) is K)) ≤ 65535
+    → readTrace (encodeTrace head (unwind cut (head .inputs) is K)) ≡ Accepted head (unwind cut (head .inputs) is K)
+unwind-read cut head told known room is K o few count total =
+    read-encode head (unwind cut (head .inputs) is K) known (omega arith) count (omega arith)
+    (unwind-well-formed cut head told is K o few count)
+
 pub unwind-accepted : (S : ℕ) (is : List Instr) (K : ℕ) → All (InstrOk S (length is)) is → S ≤ inputRoom
-    → length (unwind Assume S is K) ≤ 4096
-    → length (encodeTrace (traceHead S) (unwind Assume S is K)) ≤ 65535
-    → readTrace (encodeTrace (traceHead S) (unwind Assume S is K)) ≡ Accepted (traceHead S) (unwind Assume S is K)
-unwind-accepted S is K o few count total =
-    read-encode (traceHead S) (unwind Assume S is K) (trace-known S) (omega (arith, room-written)) count (omega arith)
-    (unwind-ok S is K o few count)
+    → length (unwind Bound S is K) ≤ 4096
+    → length (encodeTrace (traceHead S) (unwind Bound S is K)) ≤ 65535
+    → readTrace (encodeTrace (traceHead S) (unwind Bound S is K)) ≡ Accepted (traceHead S) (unwind Bound S is K)
+unwind-accepted S = unwind-read Bound (traceHead S) (written-tells S) (trace-known S) room-written

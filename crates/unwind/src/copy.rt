@@ -7,7 +7,7 @@ ghost use mathlib.Core.Bool.{true};
 ghost use mathlib.Core.List.{[], _∷_};
 ghost use Prim.Native.Nat.{_+_, _*_, _≤_, _<_};
 ghost use lib.ListN.{length, drop, getD};
-ghost use Rattle.file.specs.Outcome.{Assume};
+ghost use Rattle.file.specs.Outcome.{Bound};
 ghost use Rattle.file.specs.File.{headerInputs, recordOf, recordsBytes};
 ghost use Rattle.file.specs.Shown.{isGood, listed};
 ghost use Rattle.table.specs.Table.{instr, readTable};
@@ -40,7 +40,7 @@ fn write_jump(
     requires { ⌜ (at < 65536) × (n ≤ 1024) × (i < n) × (r ≤ bound) × (bound ≤ 255) × (f .next < 65535)
         × (isGood (recordOf (instr (length (now names)) n) (drop at (now table))) ≡ true)
         × (f .to + length (recordsBytes stmtBytes
-        (statements Assume (newestOf (now names) (f .control) (f .next))
+        (statements Bound (newestOf (now names) (f .control) (f .next))
         (placeOf n bound r i (recordOf (instr (length (now names)) n) (drop at (now table))) ∷ []))) ≤ length (now out))
         × (getD (now table) (at + 2) 0 ≡ 4) ⌝ }
     ensures { λ g. ⌜ Written (newestOf (now (names .entry)) (f .control) (f .next))
@@ -93,7 +93,7 @@ fn write_place(
     requires { ⌜ (at < 65536) × (n ≤ 1024) × (i < n) × (r ≤ bound) × (bound ≤ 255) × (f .next < 65535)
         × (isGood (recordOf (instr (length (now names)) n) (drop at (now table))) ≡ true)
         × (f .to + length (recordsBytes stmtBytes
-        (statements Assume (newestOf (now names) (f .control) (f .next))
+        (statements Bound (newestOf (now names) (f .control) (f .next))
         (placeOf n bound r i (recordOf (instr (length (now names)) n) (drop at (now table))) ∷ []))) ≤ length (now out)) ⌝ }
     ensures { λ g. ⌜ Written (newestOf (now (names .entry)) (f .control) (f .next))
         (placeOf n bound r i (recordOf (instr (length (now (names .entry))) n) (drop at (now (table .entry)))) ∷ []) (now (out .entry))
@@ -140,7 +140,7 @@ fn write_copy(
     requires { ⌜ (r ≤ bound) × (bound ≤ 255) × (f .next + (n + 1) ≤ 65535) × Ready (now table) (now offsets) n
         × (headerInputs (now table) ≤ length (now names))
         × (f .to + length (recordsBytes stmtBytes
-        (statements Assume (newestOf (now names) (f .control) (f .next)) (copyFrom n bound r 0 (listed (readTable (now table))))))
+        (statements Bound (newestOf (now names) (f .control) (f .next)) (copyFrom n bound r 0 (listed (readTable (now table))))))
         ≤ length (now out)) ⌝ }
     ensures { λ g. ⌜ Written (newestOf (now (names .entry)) (f .control) (f .next))
         (copyFrom n bound r 0 (listed (readTable (now (table .entry))))) (now (out .entry)) (f .to) (now (out .exit)) (now (names .exit)) g
@@ -176,10 +176,10 @@ pub fn write_copies(
     requires { ⌜ (bound ≤ 255) × (f .next + (bound + 1) * (n + 1) ≤ 65535) × Ready (now table) (now offsets) n
         × (headerInputs (now table) ≤ length (now names))
         × (f .to + length (recordsBytes stmtBytes
-        (statements Assume (newestOf (now names) (f .control) (f .next)) (places (listed (readTable (now table))) bound)))
+        (statements Bound (newestOf (now names) (f .control) (f .next)) (places (listed (readTable (now table))) bound)))
         ≤ length (now out)) ⌝ }
     ensures { λ r. ⌜ Wrote (now (out .entry)) (f .to)
-        (recordsBytes stmtBytes (statements Assume (newestOf (now (names .entry)) (f .control) (f .next))
+        (recordsBytes stmtBytes (statements Bound (newestOf (now (names .entry)) (f .control) (f .next))
         (places (listed (readTable (now (table .entry)))) bound))) (now (out .exit)) r ⌝ }
 {
     let mut r: usize = 0;

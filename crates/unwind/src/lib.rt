@@ -10,7 +10,7 @@ use table::read;
 ghost use mathlib.Core.Path.{_≡_};
 ghost use Prim.Native.Nat.{ℕ, _+_, _*_, _≤_};
 ghost use lib.ListN.{length};
-ghost use Rattle.file.specs.Outcome.{Assume};
+ghost use Rattle.file.specs.Outcome.{Bound};
 ghost use Rattle.file.specs.File.{inputRoom, headerInputs};
 ghost use Rattle.file.specs.Shown.{listed};
 ghost use Rattle.table.specs.Table.{readTable};
@@ -65,7 +65,7 @@ fn write_all(
     requires { ⌜ Ready (now table) (now offsets) n × (bound ≤ 255) × (count ≡ 1 + (bound + 1) * (n + 1)) × (count ≤ 4096)
         × (total ≡ traceSize (listed (readTable (now table))) bound) × (total ≤ length (now out)) ⌝ }
     ensures { λ _. ⌜ now (out .exit) ≡ over (encodeTrace (traceHead (headerInputs (now (table .entry))))
-        (unwind Assume (headerInputs (now (table .entry))) (listed (readTable (now (table .entry)))) bound)) (now (out .entry)) ⌝ }
+        (unwind Bound (headerInputs (now (table .entry))) (listed (readTable (now (table .entry)))) bound)) (now (out .entry)) ⌝ }
 {
     let inputs = file::inputs_of(table);
     let a = write::put_header(trace::VERSION, total, inputs, count, out);

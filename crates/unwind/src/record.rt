@@ -14,7 +14,7 @@ ghost use Rattle.expr.specs.Eval.{rename};
 ghost use Rattle.expr.specs.Shown.{isWhole, tokensOf};
 ghost use Rattle.file.specs.File.{recordBytes};
 ghost use Rattle.file.specs.Shown.{kindOf};
-ghost use Rattle.file.specs.Outcome.{Assume};
+ghost use Rattle.file.specs.Outcome.{Assume, Bound};
 ghost use Rattle.trace.specs.Trace.{Assign, Test, stmtBytes};
 ghost use Rattle.write.specs.Splice.{splice, Wrote};
 ghost use Rattle.unwind.specs.Unwind.{guarded, opening};
@@ -166,17 +166,17 @@ pub fn put_jump(
     close(out, at, g)
 }
 
-// A back jump of the last copy, at place j: an Assume that its condition is zero.
+// A back jump of the last copy, at place j: a test that its condition is zero, of the bound's own kind.
 pub fn put_bound(e: &[u8], names: &[u16], w: usize, j: usize, out: &mut [u8], at: usize) -> usize
     requires { ⌜ (j < 4294967296) × (isWhole (parse Table (below (length (now names))) (now e)) ≡ true)
         × (at + (21 + exprSize (tokensOf (parse Table (below (length (now names))) (now e)))) ≤ length (now out)) ⌝ }
     ensures { λ r. ⌜ Wrote (now (out .entry)) at
-        (recordBytes stmtBytes (Test Assume j
+        (recordBytes stmtBytes (Test Bound j
         (guarded w j (rename (currentOf (now (names .entry)))
         (tokensOf (parse Table (below (length (now (names .entry)))) (now (e .entry))) ++ Un Zero ∷ [])) (Const 1)))) (now (out .exit))
         r ⌝ }
 {
-    let a = open_test(2, j, out, at);
+    let a = open_test(4, j, out, at);
     let b = put_guard(w, j, out, a);
     let c = tokens::put_tokens(e, names, out, b);
     let d = write::put_byte(0x12, out, c);

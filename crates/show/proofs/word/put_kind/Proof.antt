@@ -2,12 +2,14 @@ use borrow.Author.Needs.{needs}
 use Rattle.show.proofs.word.put_kind.Statement.{statement}
 use Rattle.show.proofs.word.put_kind.Tie as tie
 use native.Mathlib.Omega.{arith}
-use mathlib.Core.Path.{sym, ap}
+use mathlib.Core.Path.{_≡_, sym, ap, _∙_}
 use mathlib.Core.Bool.{cond}
 use mathlib.Core.List.{_++_}
 use borrow.Author.Tests.{eq-eqb, ne-eqb}
+use lib.Dec.{eqb}
 use Rattle.write.specs.SpliceLaws.{wrote-as}
-use Rattle.file.specs.Outcome.{Assume, Assert}
+use Rattle.file.specs.Outcome.{Kind, Assume, Assert, Bound}
+use Rattle.trace.specs.Shown.{testKind}
 use Rattle.write.specs.Ascii.{ascii}
 use Rattle.show.specs.Text.{kindName}
 
@@ -21,12 +23,12 @@ same-length : tie.Need-same-length
 same-length c = search needs
 
 returns : tie.Need-returns
-returns c = (
-  wrote-as (sym (ap (λ b. ascii " " ++ ascii (kindName (cond b Assert Assume)))
-      (eq-eqb _ 3 (c .before .before .before .before .before .if1 .taken)))) (c .before .before .fit-part .ensures),
-  omega
-      (arith, c .before .before .fit-part .ensures .next),
-)
+returns c =
+    let code = c .before .before .before .before .before .before .before .args .kind in
+    let is : testKind code ≡ Assert = rw (eq-eqb code 3 (c .before .before .before .before .before .if1 .taken)) in (
+      wrote-as (sym (ap (λ k. ascii " " ++ ascii (kindName k)) is)) (c .before .before .fit-part .ensures),
+      omega (arith, c .before .before .fit-part .ensures .next),
+    )
 
 slice-aggregate-fit-part-2 : tie.Need-slice-aggregate-fit-part-2
 slice-aggregate-fit-part-2 c = search needs
@@ -38,12 +40,33 @@ same-length-2 : tie.Need-same-length-2
 same-length-2 c = search needs
 
 returns-2 : tie.Need-returns-2
-returns-2 c = (
-  wrote-as (sym (ap (λ b. ascii " " ++ ascii (kindName (cond b Assert Assume)))
-      (ne-eqb _ 3 (c .before .before .before .before .before .if1 .left)))) (c .before .before .fit-part2 .ensures),
-  omega
-      (arith, c .before .before .fit-part2 .ensures .next),
-)
+returns-2 c =
+    let if1 = c .before .before .before .before .before .before .if1 in
+    let code = c .before .before .before .before .before .before .before .before .args .kind in
+    let is : testKind code ≡ Bound = rw (ne-eqb code 3 (if1 .left), eq-eqb code 4 (c .before .before .before .before .before .if2 .taken))
+    in (
+      wrote-as (sym (ap (λ k. ascii " " ++ ascii (kindName k)) is)) (c .before .before .fit-part2 .ensures),
+      omega (arith, c .before .before .fit-part2 .ensures .next),
+    )
+
+slice-aggregate-fit-part-3 : tie.Need-slice-aggregate-fit-part-3
+slice-aggregate-fit-part-3 c = search needs
+
+fit-part-requires-3 : tie.Need-fit-part-requires-3
+fit-part-requires-3 c κs = search needs
+
+same-length-3 : tie.Need-same-length-3
+same-length-3 c = search needs
+
+returns-3 : tie.Need-returns-3
+returns-3 c =
+    let if1 = c .before .before .before .before .before .before .if1 in
+    let code = c .before .before .before .before .before .before .before .before .args .kind in
+    let is : testKind code ≡ Assume = rw (ne-eqb code 3 (if1 .left), ne-eqb code 4 (c .before .before .before .before .before .if2 .left))
+    in (
+      wrote-as (sym (ap (λ k. ascii " " ++ ascii (kindName k)) is)) (c .before .before .fit-part3 .ensures),
+      omega (arith, c .before .before .fit-part3 .ensures .next),
+    )
 
 pub put-kind-spec : {M : Type 1} → statement M
 put-kind-spec =
@@ -56,4 +79,8 @@ put-kind-spec =
     slice-aggregate-fit-part-2
     fit-part-requires-2
     same-length-2
-    returns-2)
+    returns-2
+    slice-aggregate-fit-part-3
+    fit-part-requires-3
+    same-length-3
+    returns-3)

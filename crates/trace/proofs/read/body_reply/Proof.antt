@@ -2,9 +2,7 @@ use mathlib.Core.Path.{sym, _∙_}
 use Prim.Native.Nat.{_+_}
 use native.Mathlib.Omega.{arith}
 use Rattle.file.specs.FileLaws.{symbols-in-two-bytes}
-use Rattle.file.specs.Outcome.{Assume, Assert}
 use Rattle.trace.specs.Trace.{Seen}
-use Rattle.trace.specs.TraceLaws.{kind-assume, kind-assert}
 use Rattle.trace.specs.Shown.{seen}
 use Rattle.trace.proofs.Bodies.{assign-short, assign-low, assign-high, assign-expr, test-short, test-expr, unknown}
 use borrow.Author.Needs.{needs}
@@ -12,7 +10,7 @@ use Rattle.trace.proofs.read.body_reply.Statement.{statement}
 use Rattle.trace.proofs.read.body_reply.Tie as tie
 
 abbrev σ : tie.Start → Seen
-σ c = seen (c .args .inputs) (c .args .least) (c .args .assigned .now)
+σ c = seen (c .args .inputs) (c .args .least) (c .args .assigned .now) (c .args .bounds)
 
 shared-slice-read-kind : tie.Need-shared-slice-read-kind
 shared-slice-read-kind c = search needs
@@ -59,45 +57,29 @@ returns-4 c =
     c .expr-reply .ensures ∙ sym (assign-expr (start .args .inputs + 4096) (σ start) (start .args .body .now) (start .pre .0) (if1 .taken)
     (if2 .left) (rw (two-at .ensures .0) at (if3 .left)) (rw (two-at .ensures .0) at (c .before .if4 .left)))
 
+known-test-requires : tie.Need-known-test-requires
+known-test-requires c κs = search needs
+
 returns-5 : tie.Need-returns-5
 returns-5 c =
-    let start = c .before .before .before .before .before .before in
-    sym (test-short (start .args .inputs + 4096) (σ start) (start .args .body .now) (start .pre .0) Assume
-    (kind-assume (start .args .inputs + 4096) (σ start) (start .args .body .now) (start .pre .0) (c .before .if5 .taken))
-    (c .if6 .taken))
+    let start = c .before .before .before .before .before .before .before in
+    sym (test-short (start .args .inputs + 4096) (σ start) (start .args .body .now) (start .pre .0)
+    (sym (c .before .before .known-test .ensures) ∙ c .before .if5 .taken) (c .if6 .taken))
 
 expr-reply-requires-2 : tie.Need-expr-reply-requires-2
 expr-reply-requires-2 c κs = search needs
 
 returns-6 : tie.Need-returns-6
 returns-6 c =
-    let start = c .before .before .before .before .before .before .before in
-    let if5 = c .before .before .if5 in
-    c .expr-reply2 .ensures ∙ sym (test-expr (start .args .inputs + 4096) (σ start) (start .args .body .now) (start .pre .0) Assume
-    (kind-assume (start .args .inputs + 4096) (σ start) (start .args .body .now) (start .pre .0) (if5 .taken)) (c .before .if6 .left))
+    let start = c .before .before .before .before .before .before .before .before in
+    c .expr-reply2 .ensures ∙ sym (test-expr (start .args .inputs + 4096) (σ start) (start .args .body .now) (start .pre .0)
+    (sym (c .before .before .before .known-test .ensures) ∙ c .before .before .if5 .taken) (c .before .if6 .left))
 
 returns-7 : tie.Need-returns-7
 returns-7 c =
-    let start = c .before .before .before .before .before .before .before in
-    sym (test-short (start .args .inputs + 4096) (σ start) (start .args .body .now) (start .pre .0) Assert
-    (kind-assert (start .args .inputs + 4096) (σ start) (start .args .body .now) (start .pre .0) (c .before .if7 .taken))
-    (c .if8 .taken))
-
-expr-reply-requires-3 : tie.Need-expr-reply-requires-3
-expr-reply-requires-3 c κs = search needs
-
-returns-8 : tie.Need-returns-8
-returns-8 c =
-    let start = c .before .before .before .before .before .before .before .before in
-    let if7 = c .before .before .if7 in
-    c .expr-reply3 .ensures ∙ sym (test-expr (start .args .inputs + 4096) (σ start) (start .args .body .now) (start .pre .0) Assert
-    (kind-assert (start .args .inputs + 4096) (σ start) (start .args .body .now) (start .pre .0) (if7 .taken)) (c .before .if8 .left))
-
-returns-9 : tie.Need-returns-9
-returns-9 c =
-    sym (unknown (c .before .before .before .before .before .before .args .inputs + 4096)
-    (σ (c .before .before .before .before .before .before)) (c .before .before .before .before .before .before .args .body .now)
-    (c .before .before .before .before .before .before .pre .0) (c .before .before .if1 .left) (c .before .if5 .left) (c .if7 .left))
+    let start = c .before .before .before .before .before .before in
+    sym (unknown (start .args .inputs + 4096) (σ start) (start .args .body .now) (start .pre .0) (c .before .before .if1 .left)
+    (sym (c .before .known-test .ensures) ∙ c .if5 .left))
 
 pub body-reply-spec : {M : Type 1} → statement M
 body-reply-spec =
@@ -111,10 +93,8 @@ body-reply-spec =
     returns-3
     expr-reply-requires
     returns-4
+    known-test-requires
     returns-5
     expr-reply-requires-2
     returns-6
-    returns-7
-    expr-reply-requires-3
-    returns-8
-    returns-9)
+    returns-7)

@@ -8,7 +8,7 @@ use borrow.Author.Needs.{needs}
 use Rattle.trace.proofs.read.learn.Statement.{statement}
 use Rattle.trace.proofs.read.learn.Tie as tie
 
-held : (c : tie.Start) → Held (c .args .inputs + 4096) (seen (c .args .inputs) (c .args .least) (c .args .assigned .now))
+held : (c : tie.Start) → Held (c .args .inputs + 4096) (seen (c .args .inputs) (c .args .least) (c .args .assigned .now) (c .args .bounds))
     (c .args .trace .now) (c .args .at)
 held c = held-at _ _ _ _ (c .pre .3)
 

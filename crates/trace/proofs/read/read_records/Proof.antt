@@ -17,18 +17,18 @@ use Rattle.trace.proofs.read.read_records.Statement.{statement}
 use Rattle.trace.proofs.read.read_records.Tie as tie
 
 abbrev Inv-loop : tie.InvT-loop
-Inv-loop trace inputs n offsets₀ assigned₀ at₀ k₀ least₀ offsets assigned at k least =
-    Walking trace inputs n offsets₀ offsets assigned at k least
+Inv-loop trace inputs bounds n offsets₀ assigned₀ at₀ k₀ least₀ offsets assigned at k least =
+    Walking trace inputs bounds n offsets₀ offsets assigned at k least
 
 abbrev μ-loop : tie.MeasureT-loop
-μ-loop trace inputs n offsets₀ assigned₀ at₀ k₀ least₀ offsets assigned at k least = n - k
+μ-loop trace inputs bounds n offsets₀ assigned₀ at₀ k₀ least₀ offsets assigned at k least = n - k
 
 header-size-requires : tie.Need-header-size-requires Inv-loop μ-loop
 header-size-requires c κs = search needs
 
 loop-holds : tie.Need-loop-holds Inv-loop μ-loop
 unfolding symbolRoom
-loop-holds c = start _ _ _ _ (c .header-size .ensures) (c .before .before .before .pre .0)
+loop-holds c = start _ _ _ _ _ (c .header-size .ensures) (c .before .before .before .pre .0)
 
 frame-at-requires : tie.Need-frame-at-requires Inv-loop μ-loop
 frame-at-requires c κs = c .before .loop .inv .walk .inside
@@ -56,7 +56,8 @@ module _ (c : tie.Else1 Inv-loop μ-loop) where
   len = c .before .frame-at .result
 
   abbrev one : List ℕ → Body Stmt
-  one = stmt (S + 4096) (seen S (c .before .before .before .loop .least) (c .before .before .before .loop .assigned))
+  one = stmt (S + 4096) (seen S (c .before .before .before .loop .least) (c .before .before .before .loop .assigned)
+      (c .before .before .before .before .before .before .before .args .bounds))
 
   inside : at + (2 + len) ≤ length s
   inside = record-inside one s at len (c .before .frame-at .ensures) (c .if1 .left)
@@ -169,7 +170,7 @@ loop-again : tie.Need-loop-again Inv-loop μ-loop
 loop-again c =
     let r = c .before .before .before .before .before .before .before in
     let x = statement-there (c .before .before .before) in
-    on _ _ _ _ (r .before .before .before .before .before .before .before .pre .2) (r .before .before .before .loop .inv)
+    on _ _ _ _ _ (r .before .before .before .before .before .before .before .pre .2) (r .before .before .before .loop .inv)
     (r .before .before .loop-test .taken) (x .0) (x .1) (len r) (r .before .frame-at .ensures) (inside r) _
     (c .before .learn .ensures .1) _ (c .before .learn .ensures .0)
 

@@ -9,7 +9,7 @@ use Rattle.expr.specs.Lists.{all-at}
 use Rattle.expr.specs.Number.{Byte}
 use Rattle.file.specs.File.{headerVersion, headerReply}
 use Rattle.file.specs.FileLaws.{inputs-room, Header, header-is, header-known}
-use Rattle.trace.specs.Trace.{isTrace}
+use Rattle.trace.specs.Trace.{isTrace, tellsBound}
 use Rattle.file.specs.ReadingLaws.{short}
 use Rattle.trace.proofs.Answers.{header-read, records-read}
 use Rattle.trace.proofs.read.read_trace.Statement.{statement}
@@ -53,18 +53,20 @@ inputs-of-requires c κs = head c .long
 count-of-requires : tie.Need-count-of-requires
 count-of-requires c κs = head (c .before) .long
 
+tells-bound-requires : tie.Need-tells-bound-requires
+tells-bound-requires c κs = search needs
+
 read-records-requires : tie.Need-read-records-requires
 read-records-requires c κs =
-    let z = c .before .before .before in (
+    let z = c .before .before .before .before in (
       head z .long,
       small z,
-      omega (arith, head z .inputs, inputs-room (headerVersion (s z)), c .before .before .inputs-of .ensures),
+      omega (arith, head z .inputs, inputs-room (headerVersion (s z)), c .before .before .before .inputs-of .ensures),
       omega (
         arith,
         head z .count,
-        c .before .count-of .ensures,
-        c .before .before .before .before .before .before .before .before .before
-            .pre,
+        c .before .before .count-of .ensures,
+        z .before .before .before .before .before .before .pre,
       ),
     )
 
@@ -73,9 +75,11 @@ same-length c = search needs
 
 returns-2 : tie.Need-returns-2
 returns-2 c =
-    records-read _ (good (c .before .before .before .before .before .before))
-    (c .before .before .before .before .before .inputs-of .ensures)
-    (c .before .before .before .before .count-of .ensures) (c .before .before .read-records .ensures)
+    let at-count = c .before .before .before .before .before in
+    let version-of = at-count .before .before .before .before .before .version-of in
+    records-read _ (good (at-count .before .before)) (at-count .before .inputs-of .ensures)
+    (c .before .before .before .before .tells-bound .ensures ∙ ap tellsBound (version-of .ensures)) (at-count .count-of .ensures)
+    (c .before .before .read-records .ensures)
 
 pub read-trace-spec : {M : Type 1} → statement M
 read-trace-spec =
@@ -87,6 +91,7 @@ read-trace-spec =
     returns
     inputs-of-requires
     count-of-requires
+    tells-bound-requires
     read-records-requires
     same-length
     returns-2)

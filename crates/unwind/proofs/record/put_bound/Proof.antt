@@ -10,7 +10,7 @@ use Rattle.expr.specs.Token.{Token, Const, Un, exprBytes}
 use Rattle.expr.specs.Expr.{below, parse}
 use Rattle.expr.specs.Shown.{tokensOf}
 use Rattle.expr.specs.Eval.{rename}
-use Rattle.file.specs.Outcome.{Assume}
+use Rattle.file.specs.Outcome.{Bound}
 use Rattle.trace.specs.Trace.{Test}
 use Rattle.write.specs.SpliceLaws.{_then_}
 use Rattle.unwind.specs.Unwind.{guarded}
@@ -76,7 +76,7 @@ returns c =
     let close = c .before .before .close in
     let a = start .args in
     let e = body start in
-    closes (Test Assume (a .j) (guarded (a .w) (a .j) (rename (currentOf (a .names .now)) (e ++ Un Zero ∷ [])) (Const 1)))
+    closes (Test Bound (a .j) (guarded (a .w) (a .j) (rename (currentOf (a .names .now)) (e ++ Un Zero ∷ [])) (Const 1)))
     (open-test .ensures then put-guard .ensures then put-tokens .ensures then put-byte .ensures then put-holds .ensures)
     (bound-bytes (a .w) (a .j) e (currentOf (a .names .now))) (close .ensures)
 
