@@ -1,4 +1,5 @@
-//! Holds libkadvitul.a and the slice printer to a model written from document 01 alone, which shares nothing with them.
+//! Holds libkadvitul.a and the slice printer to a model written from document 01 and its requests alone, which shares nothing
+//! with them.
 
 pub mod agreement;
 pub mod answer;
@@ -18,4 +19,5 @@ pub mod parts;
 pub mod program;
 pub mod shrink;
 pub mod statement;
+pub mod verdict;
 pub mod written;

@@ -1,6 +1,7 @@
-//! What document 01 says of tables and traces, in plain Rust: checked once, then run, unwound, judged or sliced in
-//! place; and how a slice is printed.
+//! What document 01 says of tables and traces, and request 2026-01 of verdicts, in plain Rust: checked once, then run,
+//! unwound, judged or sliced in place; and how a slice is printed.
 
+mod end;
 mod expression;
 mod file;
 mod judging;
@@ -12,6 +13,7 @@ mod trace;
 mod unwinding;
 mod writer;
 
+use end::End;
 use file::{Refusal, INPUT_LIMIT};
 use running::Outcome;
 use slicing::Slice;
@@ -19,7 +21,7 @@ use table::{Table, INSTRUCTION_LIMIT};
 use trace::{Trace, STATEMENT_LIMIT, SYMBOL_LIMIT};
 use unwinding::LENGTH_LIMIT;
 
-/// The five numbers of a run. A refusal has all but the first two 0; the verdict is 0 for safe, 1 for unsafe.
+/// The five numbers of a run. A refusal has all but the first two 0; `verdict` names the verdicts.
 #[derive(Clone, Copy, Debug, Default, PartialEq, Eq)]
 pub struct RunAnswer {
     pub reply: u32,
@@ -60,12 +62,9 @@ pub struct SliceAnswer {
 /// Runs a table under a bound; the valuation is four big-endian bytes for each input.
 pub fn run(table: &[u8], bound: u64, valuation: &[u8]) -> RunAnswer {
     match accept_and_run(table, bound, valuation) {
-        Ok(Outcome { failed_at, back_jumps }) => RunAnswer {
-            verdict: failed_at.is_some().into(),
-            place: failed_at.unwrap_or(0),
-            back_jumps,
-            ..RunAnswer::default()
-        },
+        Ok(Outcome { end, back_jumps }) => {
+            RunAnswer { verdict: end.verdict(), place: end.place(), back_jumps, ..RunAnswer::default() }
+        }
         Err(Refusal { number, offset }) => RunAnswer { reply: number, offset, ..RunAnswer::default() },
     }
 }
@@ -99,16 +98,12 @@ fn accept_and_trace(bytes: &[u8], bound: u64, out: &mut [u8]) -> Result<usize, R
 /// Judges a trace under a valuation, four big-endian bytes for each input.
 pub fn judge(trace: &[u8], valuation: &[u8]) -> JudgeAnswer {
     match accept_and_judge(trace, valuation) {
-        Ok(failed_at) => JudgeAnswer {
-            verdict: failed_at.is_some().into(),
-            place: failed_at.unwrap_or(0).into(),
-            ..JudgeAnswer::default()
-        },
+        Ok(end) => JudgeAnswer { verdict: end.verdict(), place: end.place(), ..JudgeAnswer::default() },
         Err(Refusal { number, offset }) => JudgeAnswer { reply: number, offset, ..JudgeAnswer::default() },
     }
 }
 
-fn accept_and_judge(bytes: &[u8], valuation: &[u8]) -> Result<Option<u16>, Refusal> {
+fn accept_and_judge(bytes: &[u8], valuation: &[u8]) -> Result<End, Refusal> {
     let trace = Trace::read(bytes)?;
     let mut cells = [0; SYMBOL_LIMIT];
     read_valuation(valuation, trace.inputs, &mut cells)?;

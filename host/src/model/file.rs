@@ -19,16 +19,17 @@ impl Refusal {
 }
 
 pub struct Header {
+    pub version: u8,
     pub inputs: u8,
     pub count: u16,
 }
 
 impl Header {
-    pub fn read(bytes: &[u8], right_version: u8, count_limit: usize) -> Result<Header, Refusal> {
+    pub fn read(bytes: &[u8], versions: &[u8], count_limit: usize) -> Result<Header, Refusal> {
         let Some(&[version, high, low, inputs, count_high, count_low]) = bytes.first_chunk() else {
             return Err(Refusal::new(1, 0));
         };
-        if version != right_version {
+        if !versions.contains(&version) {
             return Err(Refusal::new(2, 0));
         }
         if usize::from(u16::from_be_bytes([high, low])) != bytes.len() {
@@ -38,11 +39,11 @@ impl Header {
         if usize::from(inputs) > INPUT_LIMIT || usize::from(count) > count_limit {
             return Err(Refusal::new(4, 0));
         }
-        Ok(Header { inputs, count })
+        Ok(Header { version, inputs, count })
     }
 
-    pub fn write(&self, version: u8, length: usize, writer: &mut Writer) {
-        writer.put([version]);
+    pub fn write(&self, length: usize, writer: &mut Writer) {
+        writer.put([self.version]);
         writer.put_number(length as u16);
         writer.put([self.inputs]);
         writer.put_number(self.count);
@@ -51,8 +52,8 @@ impl Header {
 
 /// An instruction or a statement: a record's kind with its fields.
 pub trait Action: Sized {
-    /// The action and the expression behind it, or nothing where refusal 5 is due.
-    fn split(body: &[u8]) -> Option<(Self, &[u8])>;
+    /// The action and the expression behind it, or nothing where refusal 5 is due in a file of this version.
+    fn split(body: &[u8], version: u8) -> Option<(Self, &[u8])>;
 }
 
 pub struct Record<'a, A> {
@@ -67,7 +68,7 @@ impl<'a, A: Action> Record<'a, A> {
     pub fn at(bytes: &'a [u8], offset: usize) -> Option<Record<'a, A>> {
         let (length, rest) = bytes[offset..].split_first_chunk()?;
         let body = rest.get(..u16::from_be_bytes(*length).into())?;
-        let (action, expression) = A::split(body)?;
+        let (action, expression) = A::split(body, bytes[0])?;
         Some(Record { action, expression, range: offset..offset + 2 + body.len() })
     }
 }

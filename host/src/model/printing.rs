@@ -1,4 +1,4 @@
-//! Document 01, "A small rule, worked": the lines that the slice printer prints.
+//! Document 01, "A small rule, worked": the lines that the slice printer prints; request 2026-01 has the word `bound`.
 
 use std::iter;
 
@@ -23,6 +23,7 @@ fn line(record: Record<Statement>) -> String {
         Statement::Assign { place, symbol } => format!("{place} assign s{symbol}"),
         Statement::Assume { place } => format!("{place} assume"),
         Statement::Assert { place } => format!("{place} assert"),
+        Statement::Bound { place } => format!("{place} bound"),
     };
     let fields: Vec<String> = iter::once(head).chain(tokens::<InTrace>(record.expression).map(field)).collect();
     fields.join(" ") + "\n"

@@ -1,12 +1,12 @@
-//! Document 01, "Running a table under bound K".
+//! Document 01, "Running a table under bound K"; request 2026-01 says how a run ends.
 
+use super::end::End;
 use super::expression::{evaluate, InTable};
 use super::file::INPUT_LIMIT;
 use super::table::{Instruction, Table};
 
 pub struct Outcome {
-    /// The place of a false Assert; a safe run has none.
-    pub failed_at: Option<u32>,
+    pub end: End,
     pub back_jumps: u32,
 }
 
@@ -20,23 +20,23 @@ pub fn run(table: &Table, bound: u32, words: &mut [u32; INPUT_LIMIT]) -> Outcome
         let mut next = i + 1;
         match record.action {
             Instruction::Assign { symbol } => words[usize::from(symbol)] = word,
-            Instruction::Assume if word == 0 => break,
+            Instruction::Assume if word == 0 => return Outcome { end: End::Stopped, back_jumps },
             Instruction::Assert if word == 0 => return failed(back_jumps, n, i),
             Instruction::IfThenGoto { target } if word != 0 => next = target.into(),
             _ => {}
         }
         if next <= i {
             if back_jumps == bound {
-                break;
+                return Outcome { end: End::Cut, back_jumps };
             }
             back_jumps += 1;
         }
         i = next;
     }
-    Outcome { failed_at: None, back_jumps }
+    Outcome { end: End::Ended, back_jumps }
 }
 
 fn failed(back_jumps: u32, n: usize, i: usize) -> Outcome {
     let place = back_jumps * (n as u32 + 1) + i as u32;
-    Outcome { failed_at: Some(place), back_jumps }
+    Outcome { end: End::Unsafe(place), back_jumps }
 }

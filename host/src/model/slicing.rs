@@ -1,8 +1,8 @@
-//! Document 01, "The slice".
+//! Document 01, "The slice"; by request 2026-01 a bound is treated as an Assume, and a slice has its trace's version.
 
 use super::expression::{symbols, InTrace};
 use super::file::{Header, HEADER_LENGTH};
-use super::trace::{self, Statement, Trace, STATEMENT_LIMIT, SYMBOL_LIMIT};
+use super::trace::{Statement, Trace, STATEMENT_LIMIT, SYMBOL_LIMIT};
 use super::writer::Writer;
 
 /// What is kept of a trace: the offset of each record, rising.
@@ -28,7 +28,7 @@ impl<'a> Slice<'a> {
             let record = trace.record(offsets[i]);
             let is_kept = match record.action {
                 Statement::Assign { symbol, .. } => needed[usize::from(symbol)],
-                Statement::Assume { .. } => assert_follows,
+                Statement::Assume { .. } | Statement::Bound { .. } => assert_follows,
                 Statement::Assert { .. } => {
                     assert_follows = true;
                     true
@@ -47,8 +47,8 @@ impl<'a> Slice<'a> {
     /// Writes the slice into a buffer of its length.
     pub fn write(&self, trace: &Trace, out: &mut [u8]) {
         let mut writer = Writer::new(out);
-        let header = Header { inputs: trace.inputs, count: self.kept.len() as u16 };
-        header.write(trace::VERSION, self.length, &mut writer);
+        let header = Header { version: trace.version, inputs: trace.inputs, count: self.kept.len() as u16 };
+        header.write(self.length, &mut writer);
         for &offset in self.kept {
             writer.put_all(&trace.bytes[trace.record(offset).range]);
         }

@@ -16,7 +16,7 @@ pub struct Table<'a> {
 
 impl<'a> Table<'a> {
     pub fn read(bytes: &'a [u8], room: &'a mut [u16; INSTRUCTION_LIMIT]) -> Result<Table<'a>, Refusal> {
-        let header = Header::read(bytes, VERSION, INSTRUCTION_LIMIT)?;
+        let header = Header::read(bytes, &[VERSION], INSTRUCTION_LIMIT)?;
         let offsets = &mut room[..header.count.into()];
         check_records(bytes, header.count, &mut TableRules { header: &header, offsets })?;
         Ok(Table { inputs: header.inputs, bytes, offsets })
@@ -43,7 +43,7 @@ pub enum Instruction {
 }
 
 impl Action for Instruction {
-    fn split(body: &[u8]) -> Option<(Instruction, &[u8])> {
+    fn split(body: &[u8], _: u8) -> Option<(Instruction, &[u8])> {
         match *body {
             [1, symbol, ref expression @ ..] => Some((Instruction::Assign { symbol }, expression)),
             [2, ref expression @ ..] => Some((Instruction::Assume, expression)),

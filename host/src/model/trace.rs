@@ -1,19 +1,23 @@
-//! Document 01, "Table and trace bytes": an accepted trace, or its first refusal.
+//! Document 01, "Table and trace bytes", and request 2026-01 on versions and kinds: an accepted trace, or its first refusal.
 
 use std::ops::Range;
 
 use super::expression::{self, InTrace};
 use super::file::{check_records, Action, Header, Record, Refusal, Rules, HEADER_LENGTH, INPUT_LIMIT};
 
-pub const VERSION: u8 = 129;
+/// The version that is written, and the one before it, in which the bound's test is an Assume.
+pub const VERSION: u8 = 130;
+const OLD_VERSION: u8 = 129;
 pub const STATEMENT_LIMIT: usize = 4096;
 pub const SYMBOL_LIMIT: usize = INPUT_LIMIT + STATEMENT_LIMIT;
 
 pub const ASSIGN: u8 = 1;
 pub const ASSUME: u8 = 2;
 pub const ASSERT: u8 = 3;
+pub const BOUND: u8 = 4;
 
 pub struct Trace<'a> {
+    pub version: u8,
     pub inputs: u8,
     pub count: u16,
     pub bytes: &'a [u8],
@@ -21,9 +25,9 @@ pub struct Trace<'a> {
 
 impl<'a> Trace<'a> {
     pub fn read(bytes: &'a [u8]) -> Result<Trace<'a>, Refusal> {
-        let Header { inputs, count } = Header::read(bytes, VERSION, STATEMENT_LIMIT)?;
+        let Header { version, inputs, count } = Header::read(bytes, &[OLD_VERSION, VERSION], STATEMENT_LIMIT)?;
         check_records(bytes, count, &mut TraceRules::new(inputs))?;
-        Ok(Trace { inputs, count, bytes })
+        Ok(Trace { version, inputs, count, bytes })
     }
 
     pub fn records(&self) -> impl Iterator<Item = Record<'a, Statement>> + '_ {
@@ -45,10 +49,11 @@ pub enum Statement {
     Assign { place: u16, symbol: u16 },
     Assume { place: u16 },
     Assert { place: u16 },
+    Bound { place: u16 },
 }
 
 impl Action for Statement {
-    fn split(body: &[u8]) -> Option<(Statement, &[u8])> {
+    fn split(body: &[u8], version: u8) -> Option<(Statement, &[u8])> {
         let (&[kind, high, low], rest) = body.split_first_chunk()?;
         let place = u16::from_be_bytes([high, low]);
         match kind {
@@ -58,6 +63,7 @@ impl Action for Statement {
             }
             ASSUME => Some((Statement::Assume { place }, rest)),
             ASSERT => Some((Statement::Assert { place }, rest)),
+            BOUND if version != OLD_VERSION => Some((Statement::Bound { place }, rest)),
             _ => None,
         }
     }
@@ -86,7 +92,7 @@ impl Rules for TraceRules {
     fn allow(&self, statement: &Statement) -> bool {
         match *statement {
             Statement::Assign { symbol, .. } => self.assignable.contains(&symbol.into()),
-            Statement::Assume { .. } | Statement::Assert { .. } => true,
+            Statement::Assume { .. } | Statement::Assert { .. } | Statement::Bound { .. } => true,
         }
     }
 

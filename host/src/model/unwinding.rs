@@ -1,11 +1,12 @@
-//! Document 01, "The trace under bound K": measured in one pass over the table, then written copy by copy.
+//! Document 01, "The trace under bound K", as request 2026-01 has it written: measured in one pass over the table, then
+//! written copy by copy.
 
 use std::array;
 
 use super::expression::{symbols, tokens, InTable, Token, CONSTANT, ITE, TRACE_SYMBOL, ULE, ZERO};
 use super::file::{Header, HEADER_LENGTH, INPUT_LIMIT};
 use super::table::{Instruction, Table};
-use super::trace::{self, ASSERT, ASSIGN, ASSUME, STATEMENT_LIMIT};
+use super::trace::{self, ASSERT, ASSIGN, ASSUME, BOUND, STATEMENT_LIMIT};
 use super::writer::Writer;
 
 pub const LENGTH_LIMIT: usize = 65_535;
@@ -100,8 +101,8 @@ struct Unwinder<'a> {
 impl<'a> Unwinder<'a> {
     fn new(table: &Table, size: &Size, out: &'a mut [u8]) -> Unwinder<'a> {
         let mut writer = Writer::new(out);
-        let header = Header { inputs: table.inputs, count: size.statements as u16 };
-        header.write(trace::VERSION, size.length, &mut writer);
+        let header = Header { version: trace::VERSION, inputs: table.inputs, count: size.statements as u16 };
+        header.write(size.length, &mut writer);
         let next_symbol = table.inputs.into();
         Unwinder { writer, current: array::from_fn(|symbol| symbol as u16), control: next_symbol, next_symbol }
     }
@@ -131,7 +132,7 @@ impl<'a> Unwinder<'a> {
 
     /// A back jump in copy K.
     fn cut(&mut self, place: u16, condition: &[u8]) {
-        self.test(ASSUME, place, |body| {
+        self.test(BOUND, place, |body| {
             body.expression(condition);
             body.operator(ZERO);
         });
