@@ -1,38 +1,50 @@
-//! Document 01, "Table and trace bytes": laying out tables and traces, right or wrong, from their records.
+//! Document 01, "Table and trace bytes", and request 2026-01: laying out tables and traces, right or wrong, from their
+//! records.
 
 /// What tells tables and traces apart.
 #[derive(Clone, Copy, PartialEq, Eq)]
 pub enum Form {
     Table,
     Trace,
+    /// A trace of version 129, which is no more written.
+    OldTrace,
 }
 
 impl Form {
     pub fn other(self) -> Form {
         match self {
             Form::Table => Form::Trace,
-            Form::Trace => Form::Table,
+            Form::Trace | Form::OldTrace => Form::Table,
         }
     }
 
     pub fn version(self) -> u8 {
         match self {
             Form::Table => 1,
-            Form::Trace => 129,
+            Form::Trace => 130,
+            Form::OldTrace => 129,
         }
     }
 
     pub fn count_limit(self) -> u16 {
         match self {
             Form::Table => 1024,
-            Form::Trace => 4096,
+            Form::Trace | Form::OldTrace => 4096,
+        }
+    }
+
+    /// The lowest kind above 0 that no record has.
+    pub fn first_unknown_kind(self) -> u8 {
+        match self {
+            Form::Table | Form::Trace => 5,
+            Form::OldTrace => 4,
         }
     }
 
     pub fn depth_limit(self) -> usize {
         match self {
             Form::Table => 16,
-            Form::Trace => 17,
+            Form::Trace | Form::OldTrace => 17,
         }
     }
 
@@ -41,7 +53,7 @@ impl Form {
         let [high, low] = number.to_be_bytes();
         match self {
             Form::Table => vec![0x02, low],
-            Form::Trace => vec![0x03, high, low],
+            Form::Trace | Form::OldTrace => vec![0x03, high, low],
         }
     }
 }

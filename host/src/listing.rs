@@ -3,7 +3,7 @@
 use std::str::FromStr;
 
 use crate::encoding;
-use crate::statement::{assert, assign, assume, read as symbol_token};
+use crate::statement::{assert, assign, assume, bound, read as symbol_token};
 
 const OPERATORS: [(&str, u8); 18] = [
     ("not", 0x10),
@@ -42,6 +42,7 @@ fn statement(line: &str) -> Result<Vec<u8>, String> {
         [place, "assign", new, ref tokens @ ..] => Ok(assign(number(place)?, symbol(new)?, &expression(tokens)?)),
         [place, "assume", ref tokens @ ..] => Ok(assume(number(place)?, &expression(tokens)?)),
         [place, "assert", ref tokens @ ..] => Ok(assert(number(place)?, &expression(tokens)?)),
+        [place, "bound", ref tokens @ ..] => Ok(bound(number(place)?, &expression(tokens)?)),
         _ => Err(format!("{line} is no statement")),
     }
 }

@@ -1,6 +1,6 @@
 //! A table or a trace taken apart, however damaged.
 
-use crate::encoding;
+use crate::encoding::{self, Form};
 
 #[derive(Clone)]
 pub struct Parts {
@@ -53,6 +53,18 @@ impl Parts {
             [*high, *low] = ((target - gap) as u16).to_be_bytes();
         }
     }
+}
+
+/// An accepted trace as version 129 has it, in which a bound is an Assume; other versions' bytes are left as they are.
+pub fn as_old_trace(trace: &[u8]) -> Vec<u8> {
+    let Some(mut parts) = Parts::of(trace).filter(|parts| parts.version == Form::Trace.version()) else {
+        return trace.to_vec();
+    };
+    parts.version = Form::OldTrace.version();
+    for kind in parts.records.iter_mut().filter_map(|record| record.first_mut()) {
+        *kind = if *kind == 4 { 2 } else { *kind };
+    }
+    parts.join()
 }
 
 /// A table whose jumps to themselves go on to what follows them instead.

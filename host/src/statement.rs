@@ -1,4 +1,4 @@
-//! Document 01, "Table and trace bytes": a trace's statements, each without its length.
+//! Document 01, "Table and trace bytes", and request 2026-01: a trace's statements, each without its length.
 
 use crate::encoding::Form;
 
@@ -12,6 +12,11 @@ pub fn assume(place: u16, condition: &[u8]) -> Vec<u8> {
 
 pub fn assert(place: u16, condition: &[u8]) -> Vec<u8> {
     [&[3], &place.to_be_bytes()[..], condition].concat()
+}
+
+/// Of version 130 alone.
+pub fn bound(place: u16, condition: &[u8]) -> Vec<u8> {
+    [&[4], &place.to_be_bytes()[..], condition].concat()
 }
 
 /// The expression that is a symbol alone.

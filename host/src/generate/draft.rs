@@ -5,7 +5,10 @@ use crate::encoding::{self, Form};
 pub const ASSIGN: u8 = 1;
 pub const ASSUME: u8 = 2;
 pub const ASSERT: u8 = 3;
+/// In tables.
 pub const IF_THEN_GOTO: u8 = 4;
+/// In traces of version 130.
+pub const BOUND: u8 = 4;
 
 pub struct Draft {
     pub form: Form,
@@ -48,7 +51,9 @@ impl Draft {
         let inputs = 0..self.inputs.into();
         match self.form {
             Form::Table => inputs.collect(),
-            Form::Trace => inputs.chain(self.records[..i].iter().filter_map(Record::trace_symbol)).collect(),
+            Form::Trace | Form::OldTrace => {
+                inputs.chain(self.records[..i].iter().filter_map(Record::trace_symbol)).collect()
+            }
         }
     }
 }

@@ -1,5 +1,5 @@
 //! Tables whose runs get far: up to as many instructions as a table may have, Asserts that hold, and a loop taken up to 255
-//! times before the one Assert that may fail.
+//! times before the one Assert or Assume that may fail.
 
 use super::author;
 use super::draft::{Draft, ASSERT, ASSIGN, ASSUME, IF_THEN_GOTO};
@@ -7,7 +7,7 @@ use super::expressions::{self, Scope};
 use super::random::Random;
 use crate::encoding::Form;
 
-/// Besides what only fills a table: the counter's start and step, the back jump, and two Asserts.
+/// Besides what only fills a table: the counter's start and step, the back jump, and two tests.
 const LEAST_COUNT: usize = 5;
 
 /// A table of so many instructions, five at least, and a bound about the number of its back jumps.
@@ -53,7 +53,7 @@ impl FarAuthor<'_> {
         self.draft.add(ASSIGN, [self.counter], expressions::constant(back_jumps + 1));
         self.repeat(body, back_jumps);
         self.fill(spare - before - body - behind);
-        self.last_assert();
+        self.last_test();
         self.fill(behind);
     }
 
@@ -68,14 +68,15 @@ impl FarAuthor<'_> {
     }
 
     /// Fails mostly: the counter is zero.
-    fn last_assert(&mut self) {
+    fn last_test(&mut self) {
         let condition = match self.random.below(4) {
             0 => expressions::is_false(read(self.counter)),
             1 => expressions::constant(0),
             2 => expressions::unequal(read(self.counter), 0),
             _ => read(self.counter),
         };
-        self.draft.add(ASSERT, [], condition);
+        let kind = if self.random.one_in(5) { ASSUME } else { ASSERT };
+        self.draft.add(kind, [], condition);
     }
 
     /// Instructions that a run passes, each of them or all but a few.

@@ -46,11 +46,7 @@ fn damage_record(random: &mut Random, draft: &mut Draft, i: usize) {
 }
 
 fn break_kind(random: &mut Random, form: Form, record: &mut Record) {
-    let first_unknown = match form {
-        Form::Table => 5,
-        Form::Trace => 4,
-    };
-    record.kind = [0, first_unknown, 129, random.byte()][random.below(4)];
+    record.kind = [0, form.first_unknown_kind(), 129, random.byte()][random.below(4)];
 }
 
 fn lose_fields(random: &mut Random, record: &mut Record) {
@@ -62,7 +58,7 @@ fn lose_fields(random: &mut Random, record: &mut Record) {
 fn break_field(random: &mut Random, draft: &mut Draft, i: usize) {
     match draft.form {
         Form::Table => break_table_field(random, draft, i),
-        Form::Trace => break_trace_symbol(random, draft, i),
+        Form::Trace | Form::OldTrace => break_trace_symbol(random, draft, i),
     }
 }
 
@@ -126,7 +122,7 @@ fn unreadable(random: &mut Random, draft: &Draft, i: usize) -> u16 {
     let inputs = draft.inputs.into();
     match draft.form {
         Form::Table => inputs,
-        Form::Trace => {
+        Form::Trace | Form::OldTrace => {
             let readable = draft.readable(i);
             let own = draft.records[i].trace_symbol().unwrap_or(draft.symbol_end());
             let skipped = (inputs..own).filter(|symbol| !readable.contains(symbol));

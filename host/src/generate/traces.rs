@@ -1,16 +1,17 @@
-//! Accepted traces that come from no table: any places, symbols with gaps, reads of near and far ones.
+//! Accepted traces that come from no table, of both versions: any places, symbols with gaps, reads of near and far ones.
 
 use std::ops::Range;
 
 use super::author::{self, Author};
-use super::draft::{Draft, ASSERT, ASSIGN, ASSUME};
+use super::draft::{Draft, ASSERT, ASSIGN, ASSUME, BOUND};
 use super::expressions::{self, Scope};
 use super::random::Random;
 use crate::encoding::Form;
 
 pub fn trace(random: &mut Random) -> Draft {
     let inputs = author::inputs(random);
-    let draft = Draft::new(Form::Trace, inputs);
+    let form = random.pick(&[Form::Trace, Form::Trace, Form::OldTrace]);
+    let draft = Draft::new(form, inputs);
     let mut author = TraceAuthor {
         gap: random.pick(&[0, 0, 3, 40, 5_000]),
         readable: draft.readable(0),
@@ -47,15 +48,24 @@ impl Author for TraceAuthor<'_> {
                 0..=5 => self.assign_any(),
                 6..=7 => self.test_likely(ASSERT),
                 8..=9 => self.test_any(ASSERT),
-                10 => self.test_likely(ASSUME),
-                _ => self.test_any(ASSUME),
+                10 => {
+                    let kind = self.passed_kind();
+                    self.test_likely(kind);
+                }
+                _ => {
+                    let kind = self.passed_kind();
+                    self.test_any(kind);
+                }
             }
         }
     }
 
     fn brief(&mut self) {
         match self.random.below(1000) {
-            0 => self.test_likely(ASSUME),
+            0 => {
+                let kind = self.passed_kind();
+                self.test_likely(kind);
+            }
             1 => self.test_likely(ASSERT),
             _ => {
                 let peak = self.random.pick(&[1, 1, 1, 2]);
@@ -67,7 +77,8 @@ impl Author for TraceAuthor<'_> {
 
     fn assign(&mut self, expression: Vec<u8>) {
         let Some(symbol) = self.new_symbol() else {
-            return self.test(ASSUME, expression);
+            let kind = self.passed_kind();
+            return self.test(kind, expression);
         };
         let fields = [self.place(), symbol].map(u16::to_be_bytes).concat();
         self.draft.add(ASSIGN, fields, expression);
@@ -98,6 +109,14 @@ impl Author for TraceAuthor<'_> {
 }
 
 impl TraceAuthor<'_> {
+    /// A test that is no Assert.
+    fn passed_kind(&mut self) -> u8 {
+        match self.draft.form {
+            Form::Trace => self.random.pick(&[ASSUME, BOUND]),
+            Form::Table | Form::OldTrace => ASSUME,
+        }
+    }
+
     /// Where the symbols to read begin: all of them, or the newest.
     fn oldest(&mut self) -> usize {
         self.random.pick(&[0, self.readable.len().saturating_sub(4)])

@@ -7,6 +7,7 @@ use super::{any_bound, far, faults, lay_out, right_valuation, rules, run_case, t
 use crate::case::{JudgeCase, PrintCase, RunCase, SliceCase, TraceCase};
 use crate::encoding::Form;
 use crate::model;
+use crate::parts::as_old_trace;
 use crate::written::{whole, LENGTH_LIMIT};
 
 pub fn trace_case(seed: u64) -> TraceCase {
@@ -58,7 +59,13 @@ fn any_trace(random: &mut Random) -> Vec<u8> {
     }
     let mut trace = any_written_trace(random);
     if random.one_in(3) {
-        faults::damage_bytes(random, &mut trace, Form::Trace);
+        trace = as_old_trace(&trace);
+    }
+    match random.below(24) {
+        0..=7 => faults::damage_bytes(random, &mut trace, Form::Trace),
+        // Version 129 has no bounds.
+        8 => trace[0] = Form::OldTrace.version(),
+        _ => {}
     }
     trace
 }
