@@ -1,55 +1,122 @@
-//! What the calls say of one another. Demand 3: run, judged trace and judged slice agree, and only inputs that the slice
-//! reads matter; then what slices are for, and the text that is printed of them.
+//! What the calls say of one another. Demand 3 and request 2026-01: run and judged trace agree on verdict and place, a judged
+//! slice on unsafe or not and the place, and for these only inputs that the slice reads matter; then what slices are for, and
+//! the text that is printed of them.
 
-use crate::answer::Answer;
 use crate::archive::Calls;
 use crate::case::{Case, JudgeCase, PrintCase, RunCase};
 use crate::check::Asked;
 use crate::listing;
+use crate::parts::as_old_trace;
+use crate::verdict::{CUT, ENDED, STOPPED, UNSAFE};
 
 /// Other words for an input that is not read.
 const CHANGES: [fn(u32) -> u32; 3] = [|word| !word, |word| word ^ 1, |_| 0];
 
-/// Reply, verdict and place.
-type Judgement = [u32; 3];
+#[derive(Clone, Copy, Debug, PartialEq, Eq)]
+struct Judgement {
+    reply: u32,
+    verdict: u32,
+    place: u32,
+}
+
+impl Judgement {
+    /// What is left where nothing but unsafe or not matters.
+    fn unsafe_or_not(self) -> Judgement {
+        let verdict = if self.verdict == UNSAFE { UNSAFE } else { ENDED };
+        Judgement { verdict, ..self }
+    }
+
+    /// How a trace of version 129 shows it.
+    fn shown_by_old_trace(self) -> Judgement {
+        let verdict = if self.verdict == CUT { STOPPED } else { self.verdict };
+        Judgement { verdict, ..self }
+    }
+
+    /// A line where the judgements differ.
+    fn difference(self, what: &str, expected: Judgement) -> Option<String> {
+        (self != expected).then(|| format!("{what}: {self:?}, not {expected:?}"))
+    }
+}
 
 /// It says nothing where there is no trace, or the valuation is not of the right length.
 pub fn demand_3(case: &RunCase, calls: &dyn Calls) -> Asked {
     let expected = run(case, calls);
     let trace = calls.whole_trace(&case.table, case.bound);
     if trace.is_empty() {
-        return Asked { reply: expected[0], counts: false, wrong: vec![] };
+        return Asked { reply: expected.reply, counts: false, wrong: vec![] };
     }
     let slice = calls.whole_slice(&trace);
-    let judged = |valuation: &[u8]| [&trace, &slice].map(|trace| judge(trace, valuation, calls));
-    let [of_trace, of_slice] = judged(&case.valuation);
-    let mut judgements = vec![("judged trace", of_trace), ("judged slice", of_slice)];
+    let judged_as = |run: Judgement, valuation: &[u8]| {
+        let [of_trace, of_slice] = [&trace, &slice].map(|trace| judge(trace, valuation, calls));
+        let of_slice = of_slice.unsafe_or_not().difference("judged slice, unsafe or not", run.unsafe_or_not());
+        of_trace.difference("judged trace", run).into_iter().chain(of_slice)
+    };
+    let of_old_trace = judge(&as_old_trace(&trace), &case.valuation, calls);
+    let of_old_trace = of_old_trace.difference("judged trace of version 129", expected.shown_by_old_trace());
+    let mut wrong: Vec<String> = judged_as(expected, &case.valuation).chain(of_old_trace).collect();
     for changed in unread_changed(case, calls.mask(&trace)) {
-        let [of_trace, of_slice] = judged(&changed.valuation);
-        judgements.push(("run, unread inputs changed", run(&changed, calls)));
-        judgements.push(("judged trace, unread inputs changed", of_trace));
-        judgements.push(("judged slice, unread inputs changed", of_slice));
+        let run = run(&changed, calls);
+        let difference = run.unsafe_or_not().difference("run, unread inputs changed", expected.unsafe_or_not());
+        wrong.extend(difference.into_iter().chain(judged_as(run, &changed.valuation)));
     }
-    compared(expected, judgements)
+    Asked { reply: expected.reply, counts: expected.reply == 0, wrong }
 }
 
-/// A slice is judged as its trace.
+/// An unsafe run took no more back jumps than its bound, and its place is that of an instruction in the copy of so many; a cut
+/// run took as many. All but unsafe have place 0. It says nothing of a refused case.
+pub fn within(case: &RunCase, calls: &dyn Calls) -> Asked {
+    let Judgement { reply, verdict, place } = run(case, calls);
+    if reply != 0 {
+        return Asked { reply, counts: false, wrong: vec![] };
+    }
+    let back_jumps = calls.run_back_jumps(&case.table, case.bound, &case.valuation);
+    let n = u32::from(u16::from_be_bytes([case.table[4], case.table[5]]));
+    let first = back_jumps * (n + 1);
+    let is_right = match verdict {
+        UNSAFE => u64::from(back_jumps) <= case.bound && (first..first + n).contains(&place),
+        CUT => u64::from(back_jumps) == case.bound && place == 0,
+        ENDED | STOPPED => u64::from(back_jumps) <= case.bound && place == 0,
+        _ => false,
+    };
+    let line = || format!("verdict {verdict} at {place} after {back_jumps} back jumps under {}, n={n}", case.bound);
+    Asked { reply, counts: verdict == UNSAFE, wrong: if is_right { vec![] } else { vec![line()] } }
+}
+
+/// A slice is unsafe where its trace is, at its place, or not at all.
 pub fn slice_judged(case: &JudgeCase, calls: &dyn Calls) -> Asked {
     let slice = calls.whole_slice(&case.trace);
     let others = if slice.is_empty() { vec![] } else { vec![JudgeCase { trace: slice, ..case.clone() }] };
     judged_alike(case, others, calls)
 }
 
-/// Inputs that a slice does not read change neither verdict nor place.
+/// Inputs that a slice does not read change neither whether its trace is unsafe nor the place.
 pub fn slice_unread(case: &JudgeCase, calls: &dyn Calls) -> Asked {
     judged_alike(case, unread_changed(case, calls.mask(&case.trace)), calls)
 }
 
-/// It says nothing of a refused case, or one without others.
+/// Unsafe or not, and the place. It says nothing of a refused case, or one without others.
 fn judged_alike(case: &JudgeCase, others: Vec<JudgeCase>, calls: &dyn Calls) -> Asked {
-    let expected = case.ask(calls);
-    let wrong = others.iter().flat_map(|other| other.ask(calls).differences(&expected)).collect();
+    let judged = |case: &JudgeCase| judge(&case.trace, &case.valuation, calls).unsafe_or_not();
+    let expected = judged(case);
+    let wrong = others.iter().filter_map(|other| judged(other).difference("unsafe or not", expected)).collect();
     Asked { reply: expected.reply, counts: expected.reply == 0 && !others.is_empty(), wrong }
+}
+
+/// An accepted trace of version 130 and the same in version 129, where a cut shows as stopped. It says nothing of others.
+pub fn old_judged(case: &JudgeCase, calls: &dyn Calls) -> Asked {
+    let judgement = judge(&case.trace, &case.valuation, calls);
+    let old_trace = as_old_trace(&case.trace);
+    if judgement.reply != 0 || old_trace == case.trace {
+        return Asked { reply: judgement.reply, counts: false, wrong: vec![] };
+    }
+    let [old_slice, sliced] = [calls.whole_slice(&old_trace), as_old_trace(&calls.whole_slice(&case.trace))];
+    let mut wrong = vec![];
+    if old_slice != sliced || calls.mask(&old_trace) != calls.mask(&case.trace) {
+        wrong.push("the slice of version 129 is another".into());
+    }
+    let judged = judge(&old_trace, &case.valuation, calls);
+    wrong.extend(judged.difference("judged in version 129", judgement.shown_by_old_trace()));
+    Asked { reply: 0, counts: true, wrong }
 }
 
 /// Slicing a slice changes nothing.
@@ -91,22 +158,19 @@ fn is_text_of(slice: &[u8], text: &[u8]) -> bool {
 }
 
 fn run(RunCase { table, bound, valuation }: &RunCase, calls: &dyn Calls) -> Judgement {
-    [
-        calls.run_reply(table, *bound, valuation),
-        calls.run_verdict(table, *bound, valuation),
-        calls.run_place(table, *bound, valuation),
-    ]
+    Judgement {
+        reply: calls.run_reply(table, *bound, valuation),
+        verdict: calls.run_verdict(table, *bound, valuation),
+        place: calls.run_place(table, *bound, valuation),
+    }
 }
 
 fn judge(trace: &[u8], valuation: &[u8], calls: &dyn Calls) -> Judgement {
-    [calls.judge_reply(trace, valuation), calls.judge_verdict(trace, valuation), calls.judge_place(trace, valuation)]
-}
-
-/// A case counts if it is not refused.
-fn compared(expected: Judgement, judgements: Vec<(&str, Judgement)>) -> Asked {
-    let wrong = judgements.iter().filter(|(_, judgement)| *judgement != expected);
-    let line = |(what, judgement): &(_, _)| format!("{what}: reply, verdict, place {judgement:?}, not {expected:?}");
-    Asked { reply: expected[0], counts: expected[0] == 0, wrong: wrong.map(line).collect() }
+    Judgement {
+        reply: calls.judge_reply(trace, valuation),
+        verdict: calls.judge_verdict(trace, valuation),
+        place: calls.judge_place(trace, valuation),
+    }
 }
 
 /// The case with other words for the inputs outside the mask, in several ways; none if there is no such input.

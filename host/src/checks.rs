@@ -31,6 +31,22 @@ pub const DEMAND_3: Check<RunCase> = Check {
     ask: agreement::demand_3,
 };
 
+pub const WITHIN: Check<RunCase> = Check {
+    name: "within",
+    count: 50_000,
+    speaks_of: Some(("an unsafe run", 5_000)),
+    generate: generate::run_case,
+    ask: agreement::within,
+};
+
+pub const OLD_JUDGED: Check<JudgeCase> = Check {
+    name: "old-judged",
+    count: 40_000,
+    speaks_of: Some(("an accepted trace of version 130 and a right valuation", 20_000)),
+    generate: generate::sliced_judge_case,
+    ask: agreement::old_judged,
+};
+
 pub const SLICE_JUDGED: Check<JudgeCase> = Check {
     name: "slice-judged",
     count: 40_000,
@@ -65,8 +81,8 @@ pub const PRINT_READ: Check<PrintCase> = Check {
 };
 
 /// The checks of the archive alone.
-pub const OF_ARCHIVE: [&dyn AnyCheck; 8] =
-    [&RUN, &JUDGE, &TRACE, &SLICE, &DEMAND_3, &SLICE_JUDGED, &SLICE_UNREAD, &SLICE_TWICE];
+pub const OF_ARCHIVE: [&dyn AnyCheck; 10] =
+    [&RUN, &JUDGE, &TRACE, &SLICE, &DEMAND_3, &WITHIN, &OLD_JUDGED, &SLICE_JUDGED, &SLICE_UNREAD, &SLICE_TWICE];
 
 /// The checks of the slice printer.
 pub const OF_PROGRAM: [&dyn AnyCheck; 2] = [&PRINT, &PRINT_READ];

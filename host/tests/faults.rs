@@ -7,10 +7,12 @@ use std::process::Command;
 use host::archive::{Calls, ARCHIVE};
 use host::check::{first_failing, seeds, AnyCheck};
 use host::checks;
-use host::parts::{without_self_jumps, Parts};
+use host::parts::{as_old_trace, without_self_jumps, Parts};
 use host::program::Printed;
+use host::verdict::{CUT, ENDED, STOPPED, UNSAFE};
 
 const ASSUME: u8 = 2;
+const BOUND: u8 = 4;
 /// Buffers as long as this are lent to few calls.
 const LONG: usize = 60_000;
 
@@ -77,7 +79,7 @@ fn a_bound_that_is_counted_as_used_up_in_every_loop_is_noticed() {
     impl Calls for Liar {
         fn run_back_jumps(&self, table: &[u8], bound: u64, valuation: &[u8]) -> u32 {
             match ARCHIVE.run_back_jumps(table, bound, valuation) {
-                101.. if ARCHIVE.run_verdict(table, bound, valuation) == 0 => bound as u32,
+                101.. if ARCHIVE.run_verdict(table, bound, valuation) == ENDED => bound as u32,
                 taken => taken,
             }
         }
@@ -91,8 +93,8 @@ fn an_assert_that_is_passed_over_from_instruction_1000_on_is_noticed() {
     impl Calls for Liar {
         fn run_verdict(&self, table: &[u8], bound: u64, valuation: &[u8]) -> u32 {
             let verdict = ARCHIVE.run_verdict(table, bound, valuation);
-            if verdict == 1 && ARCHIVE.run_place(table, bound, valuation) % (count(table) + 1) >= 1_000 {
-                return 0;
+            if verdict == UNSAFE && ARCHIVE.run_place(table, bound, valuation) % (count(table) + 1) >= 1_000 {
+                return ENDED;
             }
             verdict
         }
@@ -205,7 +207,7 @@ fn a_refusal_that_writes_a_byte_is_noticed() {
         fn trace_reply(&self, table: &[u8], bound: u64, out: &mut [u8]) -> u32 {
             let reply = ARCHIVE.trace_reply(table, bound, out);
             if reply == 9 && !out.is_empty() {
-                out[0] = 129;
+                out[0] = 130;
             }
             reply
         }
@@ -291,6 +293,159 @@ fn a_slice_without_its_assumes_is_noticed() {
 }
 
 #[test]
+fn a_slice_without_its_bounds_is_noticed() {
+    struct Liar;
+    impl Calls for Liar {
+        fn slice_length(&self, trace: &[u8], out: &mut [u8]) -> u32 {
+            let length = ARCHIVE.slice_length(trace, out) as usize;
+            let Some(mut parts) = Parts::of(&out[..length]) else {
+                return 0;
+            };
+            parts.records.retain(|record| record[0] != BOUND);
+            let slice = parts.join();
+            out[..slice.len()].copy_from_slice(&slice);
+            slice.len() as u32
+        }
+    }
+    is_noticed_by(&checks::SLICE, "a slice without its bounds", &Liar);
+    is_noticed_by(&checks::SLICE_JUDGED, "a slice without its bounds", &Liar);
+    is_noticed_by(&checks::OLD_JUDGED, "a slice without its bounds", &Liar);
+    is_noticed_by(&checks::DEMAND_3, "a slice without its bounds", &Liar);
+}
+
+#[test]
+fn a_cut_run_called_ended_is_noticed() {
+    struct Liar;
+    impl Calls for Liar {
+        fn run_verdict(&self, table: &[u8], bound: u64, valuation: &[u8]) -> u32 {
+            match ARCHIVE.run_verdict(table, bound, valuation) {
+                CUT => ENDED,
+                verdict => verdict,
+            }
+        }
+    }
+    is_noticed_by(&checks::RUN, "a cut run called ended", &Liar);
+    is_noticed_by(&checks::DEMAND_3, "a cut run called ended", &Liar);
+}
+
+#[test]
+fn a_cut_trace_called_stopped_is_noticed() {
+    struct Liar;
+    impl Calls for Liar {
+        fn judge_verdict(&self, trace: &[u8], valuation: &[u8]) -> u32 {
+            match ARCHIVE.judge_verdict(trace, valuation) {
+                CUT => STOPPED,
+                verdict => verdict,
+            }
+        }
+    }
+    is_noticed_by(&checks::JUDGE, "a cut trace called stopped", &Liar);
+    is_noticed_by(&checks::DEMAND_3, "a cut trace called stopped", &Liar);
+}
+
+#[test]
+fn a_stopped_run_called_ended_is_noticed() {
+    struct Liar;
+    impl Calls for Liar {
+        fn run_verdict(&self, table: &[u8], bound: u64, valuation: &[u8]) -> u32 {
+            match ARCHIVE.run_verdict(table, bound, valuation) {
+                STOPPED => ENDED,
+                verdict => verdict,
+            }
+        }
+    }
+    is_noticed_by(&checks::RUN, "a stopped run called ended", &Liar);
+    is_noticed_by(&checks::DEMAND_3, "a stopped run called ended", &Liar);
+}
+
+#[test]
+fn the_bounds_test_written_as_an_assume_is_noticed() {
+    struct Liar;
+    impl Calls for Liar {
+        fn trace_length(&self, table: &[u8], bound: u64, out: &mut [u8]) -> u32 {
+            let length = ARCHIVE.trace_length(table, bound, out);
+            let mut trace = as_old_trace(&out[..length as usize]);
+            trace.iter_mut().take(1).for_each(|version| *version = 130);
+            out[..trace.len()].copy_from_slice(&trace);
+            length
+        }
+    }
+    is_noticed_by(&checks::TRACE, "the bound's test as an Assume", &Liar);
+    is_noticed_by(&checks::DEMAND_3, "the bound's test as an Assume", &Liar);
+}
+
+#[test]
+fn a_bound_accepted_in_version_129_is_noticed() {
+    struct Liar;
+    impl Calls for Liar {
+        fn judge_reply(&self, trace: &[u8], valuation: &[u8]) -> u32 {
+            ARCHIVE.judge_reply(&as_130(trace), valuation)
+        }
+        fn slice_reply(&self, trace: &[u8], out: &mut [u8]) -> u32 {
+            ARCHIVE.slice_reply(&as_130(trace), out)
+        }
+    }
+    is_noticed_by(&checks::JUDGE, "kind 4 accepted in version 129", &Liar);
+    is_noticed_by(&checks::SLICE, "kind 4 accepted in version 129", &Liar);
+}
+
+#[test]
+fn a_trace_of_version_129_that_is_refused_is_noticed() {
+    struct Liar;
+    impl Calls for Liar {
+        fn judge_reply(&self, trace: &[u8], valuation: &[u8]) -> u32 {
+            match ARCHIVE.judge_reply(trace, valuation) {
+                0 if trace[0] == 129 => 2,
+                reply => reply,
+            }
+        }
+    }
+    is_noticed_by(&checks::JUDGE, "version 129 refused", &Liar);
+    is_noticed_by(&checks::OLD_JUDGED, "version 129 refused", &Liar);
+}
+
+#[test]
+fn a_slice_of_another_version_than_its_trace_is_noticed() {
+    struct Liar;
+    impl Calls for Liar {
+        fn slice_length(&self, trace: &[u8], out: &mut [u8]) -> u32 {
+            let length = ARCHIVE.slice_length(trace, out);
+            out.iter_mut().take(length.min(1) as usize).for_each(|version| *version = 130);
+            length
+        }
+    }
+    is_noticed_by(&checks::SLICE, "every slice of version 130", &Liar);
+    is_noticed_by(&checks::OLD_JUDGED, "every slice of version 130", &Liar);
+}
+
+#[test]
+fn a_back_jump_too_many_in_an_unsafe_run_is_noticed() {
+    struct Liar;
+    impl Calls for Liar {
+        fn run_back_jumps(&self, table: &[u8], bound: u64, valuation: &[u8]) -> u32 {
+            let is_unsafe = ARCHIVE.run_verdict(table, bound, valuation) == UNSAFE;
+            ARCHIVE.run_back_jumps(table, bound, valuation) + u32::from(is_unsafe)
+        }
+    }
+    is_noticed_by(&checks::WITHIN, "a back jump too many", &Liar);
+}
+
+#[test]
+fn an_unsafe_place_that_is_its_copys_exit_is_noticed() {
+    struct Liar;
+    impl Calls for Liar {
+        fn run_place(&self, table: &[u8], bound: u64, valuation: &[u8]) -> u32 {
+            let place = ARCHIVE.run_place(table, bound, valuation);
+            match ARCHIVE.run_verdict(table, bound, valuation) {
+                UNSAFE => place - place % (count(table) + 1) + count(table),
+                _ => place,
+            }
+        }
+    }
+    is_noticed_by(&checks::WITHIN, "the exit's place", &Liar);
+}
+
+#[test]
 fn a_late_byte_of_a_text_is_noticed() {
     struct Liar;
     impl Calls for Liar {
@@ -321,6 +476,13 @@ fn a_failing_case_is_reported_with_the_command_that_repeats_it() {
     let mut soak = Command::new(env!("CARGO_BIN_EXE_soak"));
     let output = soak.env("CASE", "run").env("SEED", seed.to_string()).output().expect("the soak starts");
     assert_eq!(String::from_utf8_lossy(&output.stdout), format!("run: the case of seed {seed} holds\n"));
+}
+
+/// A trace of version 129 called one of version 130.
+fn as_130(trace: &[u8]) -> Vec<u8> {
+    let mut trace = trace.to_vec();
+    trace.iter_mut().take(1).filter(|version| **version == 129).for_each(|version| *version = 130);
+    trace
 }
 
 fn count(file: &[u8]) -> u32 {
