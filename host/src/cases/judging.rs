@@ -1,10 +1,12 @@
-//! Judging a trace: document 01's marked cases, limits, sentences and refusals.
+//! Judging a trace: document 01's marked cases, limits, sentences and refusals, in both versions; request 2026-01's verdicts.
 
 use super::{contrary, marked_operators, ones, traces, Known, CONSTANT_0, CONSTANT_1};
 use crate::case::JudgeCase;
-use crate::encoding;
+use crate::encoding::{self, Form};
 use crate::model::JudgeAnswer;
-use crate::statement::{assert, assign, assume, read};
+use crate::parts::as_old_trace;
+use crate::statement::{assert, assign, assume, bound, read};
+use crate::verdict::{CUT, ENDED, STOPPED, UNSAFE};
 
 type KnownJudgement = Known<JudgeCase>;
 
@@ -12,22 +14,38 @@ const NOT: u8 = 0x10;
 const NEG: u8 = 0x11;
 
 pub fn all() -> Vec<KnownJudgement> {
-    [marked(), limits(), judgements(), refusals(), unknown_kinds(), unknown_tokens()].into_iter().flatten().collect()
+    [marked(), limits(), judgements(), bounds(), refusals(), unknown_kinds(), unknown_tokens()]
+        .into_iter()
+        .flatten()
+        .collect()
 }
 
 /// The marked cases that concern judging.
 pub fn marked() -> Vec<KnownJudgement> {
     let mut known = vec![
         under_x("m1: x=0, K=0", traces::SMALL_RULE_0, 0, unsafe_at(3)),
-        under_x("m2: x=1, K=0", traces::SMALL_RULE_0, 1, safe()),
+        under_x("m2: x=1, K=0", traces::SMALL_RULE_0, 1, cut()),
         under_x("m3: x=1, K=1", traces::SMALL_RULE_1, 1, unsafe_at(8)),
-        under_x("m4: x=2, K=1", traces::SMALL_RULE_1, 2, safe()),
-        known("m11: no instructions", traces::NO_INSTRUCTIONS, [], safe()),
-        under_x("m12: 5", traces::EXAMPLE, 5, safe()),
+        under_x("m4: x=2, K=1", traces::SMALL_RULE_1, 2, cut()),
+        known("m11: no instructions", traces::NO_INSTRUCTIONS, [], ended()),
+        under_x("m12: 5", traces::EXAMPLE, 5, ended()),
         under_x("m12: 10", traces::EXAMPLE, 10, unsafe_at(1)),
     ];
     known.extend(marked_operators().map(|(name, test)| operator(name, &test)));
-    known
+    in_both_versions(known)
+}
+
+/// Cases of version 130, then the same of version 129, in which a bound is an Assume, so that a cut shows as stopped.
+fn in_both_versions(known: Vec<KnownJudgement>) -> Vec<KnownJudgement> {
+    let old = known.iter().filter(|known| known.case.trace.first() == Some(&Form::Trace.version())).map(in_old_version);
+    let old: Vec<KnownJudgement> = old.collect();
+    known.into_iter().chain(old).collect()
+}
+
+fn in_old_version(Known { name, case, answer }: &KnownJudgement) -> KnownJudgement {
+    let verdict = if answer.verdict == CUT { STOPPED } else { answer.verdict };
+    let case = JudgeCase { trace: as_old_trace(&case.trace), valuation: case.valuation.clone() };
+    Known { name: format!("{name}, version 129"), case, answer: JudgeAnswer { verdict, ..*answer } }
 }
 
 /// The limits of traces, and what lies just outside.
@@ -38,25 +56,25 @@ pub fn limits() -> Vec<KnownJudgement> {
     let last_symbol = encoding::trace(64, &[assign(1, 4159, &CONSTANT_1), assert(2, &read(63))]);
     let assigned =
         |inputs, symbol| encoding::trace(inputs, &[assign(1, symbol, &CONSTANT_1), assert(2, &read(symbol))]);
-    vec![
-        known("4,096 statements", asserts(4096), [], safe()),
+    in_both_versions(vec![
+        known("4,096 statements", asserts(4096), [], ended()),
         known("4,097 statements", asserts(4097), [], refused(4, 0)),
-        under_x("4,095 symbols, x=0", turned_4095_times(), 0, safe()),
+        under_x("4,095 symbols, x=0", turned_4095_times(), 0, ended()),
         under_x("4,095 symbols, x=2^32-1", turned_4095_times(), u32::MAX, unsafe_at(1)),
         known("65,535 bytes", negated_to(65_535), [], unsafe_at(1)),
         known("65,536 bytes", negated_to(65_536), [], refused(3, 0)),
-        known("S=64", inputs(64), [0; 4 * 64], safe()),
+        known("S=64", inputs(64), [0; 4 * 64], ended()),
         known("S=65", inputs(65), [0; 4 * 65], refused(4, 0)),
-        known("17 words of depth", deep(17), [], safe()),
+        known("17 words of depth", deep(17), [], ended()),
         known("18 words of depth", deep(18), [], refused(7, 6)),
-        known("S=0, symbol 4,095", assigned(0, 4095), [], safe()),
+        known("S=0, symbol 4,095", assigned(0, 4095), [], ended()),
         known("S=0, symbol 4,096", assigned(0, 4096), [], refused(6, 6)),
         known("S=64, symbol 63", assigned(64, 63), [0; 4 * 64], refused(6, 6)),
-        known("S=64, symbol 64", assigned(64, 64), [0; 4 * 64], safe()),
-        known("S=64, symbol 4,159", assigned(64, 4159), [0; 4 * 64], safe()),
+        known("S=64, symbol 64", assigned(64, 64), [0; 4 * 64], ended()),
+        known("S=64, symbol 4,159", assigned(64, 4159), [0; 4 * 64], ended()),
         known("S=64, symbol 4,160", assigned(64, 4160), [0; 4 * 64], refused(6, 6)),
         known("S=64, symbol 4,159 leaves the inputs alone", last_symbol, [0; 4 * 64], unsafe_at(2)),
-    ]
+    ])
 }
 
 /// Each symbol is the one before with every bit turned; the last is asserted.
@@ -79,45 +97,79 @@ pub fn negated_to(length: usize) -> Vec<u8> {
 pub fn judgements() -> Vec<KnownJudgement> {
     let [holds, fails] = [&CONSTANT_1, &CONSTANT_0];
     let second_first = encoding::trace(2, &[assert(1, &read(1)), assert(2, &read(0))]);
-    vec![
-        judge("no statement", &[], safe()),
-        judge("a safe verdict has place 0", &[assert(9, holds)], safe()),
+    in_both_versions(vec![
+        judge("no statement", &[], ended()),
+        judge("an ended judging has place 0", &[assert(9, holds)], ended()),
         judge("the first false Assert counts", &[assert(1, holds), assert(2, fails), assert(3, fails)], unsafe_at(2)),
-        judge("a false Assume ends the trace safe", &[assume(1, fails), assert(2, fails)], safe()),
+        judge("a false Assume stops the judging, at place 0", &[assume(1, fails), assert(2, fails)], stopped()),
+        judge("the last statement may stop it", &[assert(1, holds), assume(2, fails)], stopped()),
         judge("a true Assume does not", &[assume(1, holds), assert(2, fails)], unsafe_at(2)),
         judge("an Assume excuses no Assert before it", &[assert(1, fails), assume(2, fails)], unsafe_at(1)),
-        judge("any word but 0 is true", &[assume(1, &[1, 0, 0, 1, 0]), assert(2, &[1, 128, 0, 0, 0])], safe()),
+        judge("any word but 0 is true", &[assume(1, &[1, 0, 0, 1, 0]), assert(2, &[1, 128, 0, 0, 0])], ended()),
         judge("place 0 can be unsafe", &[assert(0, fails)], unsafe_at(0)),
         judge("place 65535 can be unsafe", &[assert(65535, fails)], unsafe_at(65535)),
         judge("places may repeat and fall", &[assert(9, holds), assert(9, holds), assert(3, fails)], unsafe_at(3)),
-        judge("symbols may be skipped", &[assign(1, 7, holds), assert(2, &read(7))], safe()),
+        judge("symbols may be skipped", &[assign(1, 7, holds), assert(2, &read(7))], ended()),
         judge("an assigned 0 is false", &[assign(1, 7, fails), assert(2, &read(7))], unsafe_at(2)),
-        judge("a symbol keeps its word", &[assign(1, 0, holds), assign(2, 1, fails), assert(3, &read(0))], safe()),
+        judge("a symbol keeps its word", &[assign(1, 0, holds), assign(2, 1, fails), assert(3, &read(0))], ended()),
         known("inputs stand in order", second_first, [0, 0, 0, 0, 0, 0, 0, 1], unsafe_at(2)),
         known("words are big-endian", traces::EXAMPLE, [1, 0, 0, 0], unsafe_at(1)),
-    ]
+    ])
+}
+
+/// Request 2026-01's sentences on bounds: in version 130 they cut, and version 129 has none.
+pub fn bounds() -> Vec<KnownJudgement> {
+    let [holds, fails] = [&CONSTANT_1, &CONSTANT_0];
+    let of_130 = vec![
+        judge("a false bound cuts the judging, at place 0", &[bound(1, fails), assert(2, fails)], cut()),
+        judge("the last statement may cut it", &[assert(1, holds), bound(2, fails)], cut()),
+        judge("a true bound does not", &[bound(1, holds), assert(2, fails)], unsafe_at(2)),
+        judge("a bound excuses no Assert before it", &[assert(1, fails), bound(2, fails)], unsafe_at(1)),
+        judge("a bound before an Assume cuts", &[bound(1, fails), assume(2, fails)], cut()),
+        judge("a bound behind an Assume does not", &[assume(1, fails), bound(2, fails)], stopped()),
+        judge("any word but 0 is true for a bound", &[bound(1, &[1, 0, 0, 1, 0])], ended()),
+        judge("a bound's place is not checked", &[bound(65535, holds), bound(0, holds)], ended()),
+        judge("a bound may read what was assigned", &[assign(1, 7, fails), bound(2, &read(7))], cut()),
+    ];
+    let mut known = in_both_versions(of_130);
+    known.extend([
+        old("a bound", &[bound(1, holds)], refused(5, 6)),
+        old("a bound without an expression: 5 before 7", &[bound(1, &[])], refused(5, 6)),
+        old("a bound behind a false Assert", &[assert(1, fails), bound(2, holds)], refused(5, 16)),
+        old("a bound behind a 7", &[assert(1, &[]), bound(2, holds)], refused(7, 6)),
+        under_x("the small rule's trace called version 129", as_called_129(&traces::SMALL_RULE_0), 0, refused(5, 80)),
+    ]);
+    known
+}
+
+/// A trace of version 130 with nothing but its version byte changed.
+fn as_called_129(trace: &[u8]) -> Vec<u8> {
+    [&[Form::OldTrace.version()], &trace[1..]].concat()
 }
 
 /// Sentences on the order and the offsets of refusals. Most records here have no expression, so that a 7 is due too.
 pub fn refusals() -> Vec<KnownJudgement> {
     let fails = &CONSTANT_0;
-    vec![
+    in_both_versions(vec![
         bytes("no byte", &[], refused(1, 0)),
         bytes("5 bytes, version wrong", &[1, 0, 5, 0, 0], refused(1, 0)),
         bytes("a table's version, length wrong", &[1, 0, 5, 0, 0, 0], refused(2, 0)),
         bytes("version 128", &[128, 0, 6, 0, 0, 0], refused(2, 0)),
-        bytes("version 130", &[130, 0, 6, 0, 0, 0], refused(2, 0)),
-        bytes("length and S wrong", &[129, 0, 7, 65, 0, 0], refused(3, 0)),
-        bytes("S wrong, record missing", &[129, 0, 6, 65, 0, 1], refused(4, 0)),
-        bytes("record due at the very end", &[129, 0, 6, 0, 0, 1], refused(5, 6)),
-        bytes("half a record length", &[129, 0, 7, 0, 0, 1, 0], refused(5, 6)),
-        bytes("record passing the end", &[129, 0, 11, 0, 0, 1, 0, 4, 3, 0, 0], refused(5, 6)),
-        bytes("spare byte", &[129, 0, 7, 0, 0, 0, 0], refused(5, 6)),
+        bytes("version 131", &[131, 0, 6, 0, 0, 0], refused(2, 0)),
+        bytes("length and S wrong", &[130, 0, 7, 65, 0, 0], refused(3, 0)),
+        bytes("S wrong, record missing", &[130, 0, 6, 65, 0, 1], refused(4, 0)),
+        bytes("record due at the very end", &[130, 0, 6, 0, 0, 1], refused(5, 6)),
+        bytes("half a record length", &[130, 0, 7, 0, 0, 1, 0], refused(5, 6)),
+        bytes("record passing the end", &[130, 0, 11, 0, 0, 1, 0, 4, 3, 0, 0], refused(5, 6)),
+        bytes("spare byte", &[130, 0, 7, 0, 0, 0, 0], refused(5, 6)),
         judge("record length 0", &[vec![]], refused(5, 6)),
         judge("unknown kind 0", &[vec![0, 0, 0]], refused(5, 6)),
-        judge("a table's jump", &[vec![4, 0, 0]], refused(5, 6)),
+        judge("unknown kind 5", &[vec![5, 0, 0]], refused(5, 6)),
         judge("Assume without its place", &[vec![2]], refused(5, 6)),
         judge("half a place", &[vec![3, 0]], refused(5, 6)),
+        judge("a bound without its place", &[vec![4]], refused(5, 6)),
+        judge("half a place of a bound", &[vec![4, 0]], refused(5, 6)),
+        judge("7 alone: a bound", &[vec![4, 0, 0]], refused(7, 6)),
         judge("Assign without its symbol", &[vec![1, 0, 0]], refused(5, 6)),
         judge("half a symbol", &[vec![1, 0, 0, 0]], refused(5, 6)),
         judge("6 before 7: symbol S + 4,096", &[assign(1, 4096, &[])], refused(6, 6)),
@@ -136,14 +188,14 @@ pub fn refusals() -> Vec<KnownJudgement> {
         under_x("a table's symbol", encoding::trace(1, &[assume(1, &[2, 0])]), 0, refused(7, 6)),
         judge("7 before a later 5", &[assume(1, &[]), vec![9]], refused(7, 6)),
         judge("7 before a later 6", &[assume(1, &[]), assign(2, 4096, &[])], refused(7, 6)),
-        bytes("7 before spare bytes", &[129, 0, 12, 0, 0, 1, 0, 3, 3, 0, 0, 0], refused(7, 6)),
+        bytes("7 before spare bytes", &[130, 0, 12, 0, 0, 1, 0, 3, 3, 0, 0, 0], refused(7, 6)),
         judge("5 behind a false Assert", &[assert(1, fails), vec![9]], refused(5, 16)),
         judge("6 behind a false Assert", &[assert(1, fails), assign(2, 4096, fails)], refused(6, 16)),
         judge("7 behind a false Assert", &[assert(1, fails), assume(2, &[])], refused(7, 16)),
         judge("7 behind a false Assume", &[assume(1, fails), assume(2, &[])], refused(7, 16)),
         bytes(
             "spare byte behind a false Assert",
-            &[129, 0, 17, 0, 0, 1, 0, 8, 3, 0, 1, 1, 0, 0, 0, 0, 0],
+            &[130, 0, 17, 0, 0, 1, 0, 8, 3, 0, 1, 1, 0, 0, 0, 0, 0],
             refused(5, 16),
         ),
         known("7 before 11", encoding::trace(1, &[assume(1, &[])]), [], refused(7, 6)),
@@ -152,17 +204,21 @@ pub fn refusals() -> Vec<KnownJudgement> {
         known("S bytes of valuation", traces::EXAMPLE, [0; 1], refused(11, 0)),
         known("a byte too many of valuation", traces::EXAMPLE, [0; 5], refused(11, 0)),
         known("a word too many of valuation", traces::EXAMPLE, [0; 8], refused(11, 0)),
-    ]
+    ])
 }
 
-/// Kinds that no trace has.
+/// Kinds that no trace of its version has.
 pub fn unknown_kinds() -> Vec<KnownJudgement> {
-    super::unknown_kinds(1..=3).map(|(name, record)| judge(&name, &[record], refused(5, 6))).collect()
+    let of_130 = super::unknown_kinds(1..=4).map(|(name, record)| judge(&name, &[record], refused(5, 6)));
+    let of_129 = super::unknown_kinds(1..=3).map(|(name, record)| old(&name, &[record], refused(5, 6)));
+    of_130.chain(of_129).collect()
 }
 
 /// Tokens that no trace has.
 pub fn unknown_tokens() -> Vec<KnownJudgement> {
-    super::unknown_tokens(0x03).map(|(name, test)| judge(&name, &[assert(1, &test)], refused(7, 6))).collect()
+    in_both_versions(
+        super::unknown_tokens(0x03).map(|(name, test)| judge(&name, &[assert(1, &test)], refused(7, 6))).collect(),
+    )
 }
 
 /// Asserts a test, then its contrary: only the second may fail.
@@ -172,6 +228,12 @@ fn operator(name: &str, test: &[u8]) -> KnownJudgement {
 
 fn judge(name: &str, statements: &[Vec<u8>], answer: JudgeAnswer) -> KnownJudgement {
     bytes(name, &encoding::trace(0, statements), answer)
+}
+
+/// Of version 129.
+fn old(name: &str, statements: &[Vec<u8>], answer: JudgeAnswer) -> KnownJudgement {
+    let trace = encoding::file(Form::OldTrace.version(), 0, statements);
+    known(&format!("{name}, version 129"), trace, [], answer)
 }
 
 fn bytes(name: &str, trace: &[u8], answer: JudgeAnswer) -> KnownJudgement {
@@ -187,12 +249,20 @@ fn known(name: &str, trace: impl Into<Vec<u8>>, valuation: impl Into<Vec<u8>>, a
     Known { name: name.into(), case, answer }
 }
 
-fn safe() -> JudgeAnswer {
-    JudgeAnswer::default()
+fn ended() -> JudgeAnswer {
+    JudgeAnswer { verdict: ENDED, ..JudgeAnswer::default() }
+}
+
+fn stopped() -> JudgeAnswer {
+    JudgeAnswer { verdict: STOPPED, ..JudgeAnswer::default() }
+}
+
+fn cut() -> JudgeAnswer {
+    JudgeAnswer { verdict: CUT, ..JudgeAnswer::default() }
 }
 
 fn unsafe_at(place: u32) -> JudgeAnswer {
-    JudgeAnswer { verdict: 1, place, ..JudgeAnswer::default() }
+    JudgeAnswer { verdict: UNSAFE, place, ..JudgeAnswer::default() }
 }
 
 fn refused(reply: u32, offset: u32) -> JudgeAnswer {

@@ -7,12 +7,12 @@ use crate::program::Printed;
 
 type KnownText = Known<PrintCase>;
 
-/// Document 01, "A small rule, worked": the whole output for K = 0.
+/// Document 01, "A small rule, worked": the whole output for K = 0, with request 2026-01's word for the bound.
 pub const SMALL_RULE_0: &str = "\
 inputs 1 statements 4
 65535 assign s1 0
 0 assign s2 s1 0 ule s0 zero 3 s1 ite s1 ite
-2 assume s2 2 ule 1 zero 1 ite
+2 bound s2 2 ule 1 zero 1 ite
 3 assert s2 3 ule 0 1 ite
 ";
 
@@ -74,14 +74,14 @@ pub fn lines() -> Vec<KnownText> {
     let last_inputs: [&[u8]; 2] = [&[1, 63, 2, 62], &[3, 2, 63]];
     vec![
         printed(
-            "each kind of instruction, the bound's test as an assume",
+            "each kind of instruction, the bound's test as a bound",
             0,
             &encoding::table(2, &kinds),
             "inputs 2 statements 6\n\
              65535 assign s2 0\n\
              0 assign s3 s2 0 ule s0 s1 ite\n\
              1 assume s2 1 ule s3 1 ite\n\
-             2 assume s2 2 ule s0 zero 1 ite\n\
+             2 bound s2 2 ule s0 zero 1 ite\n\
              3 assign s4 s2 3 ule s0 4 s2 ite s2 ite\n\
              4 assert s4 4 ule s3 1 ite\n",
         ),
@@ -121,7 +121,8 @@ pub fn refusals() -> Vec<KnownText> {
         refused("a byte long", 0, &[&rule[..], &[0]].concat(), (3, 0)),
         refused("a byte short, its length mended", 0, &mended(&rule[..43]), (5, 36)),
         refused("a byte long, its length mended", 0, &mended(&[&rule[..], &[0]].concat()), (5, 44)),
-        refused("a trace", 0, &[129, 0, 6, 0, 0, 0], (2, 0)),
+        refused("a trace", 0, &[130, 0, 6, 0, 0, 0], (2, 0)),
+        refused("an old trace", 0, &[129, 0, 6, 0, 0, 0], (2, 0)),
         refused("1,024 Asserts, K=2", 2, &running::thousand_asserts(), (9, 0)),
         refused("1,024 Asserts, K=255", 255, &running::thousand_asserts(), (9, 0)),
     ];
@@ -165,7 +166,7 @@ pub fn longer_tables() -> Vec<KnownText> {
             let mut table = [&running::SMALL_RULE[..], &vec![0; length - 44]].concat();
             set_length(&mut table, field);
             known.push(refused(&format!("{length} bytes, field {field}"), 0, &table, (3, 0)));
-            for version in [0, 2, 129, 255] {
+            for version in [0, 2, 129, 130, 255] {
                 table[0] = version;
                 let name = format!("{length} bytes, field {field}, version {version}");
                 known.push(refused(&name, 0, &table, (2, 0)));

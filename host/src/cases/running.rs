@@ -1,9 +1,10 @@
-//! Running a table: document 01's marked cases, limits, sentences and refusals.
+//! Running a table: document 01's marked cases, limits, sentences and refusals, with request 2026-01's verdicts.
 
 use super::{contrary, marked_operators, ones, Known};
 use crate::case::RunCase;
 use crate::encoding;
 use crate::model::RunAnswer;
+use crate::verdict::{CUT, ENDED, STOPPED, UNSAFE};
 
 type KnownRun = Known<RunCase>;
 
@@ -34,10 +35,10 @@ pub fn all() -> Vec<KnownRun> {
 pub fn marked() -> Vec<KnownRun> {
     let mut known = vec![
         small_rule("m1: x=0, K=0", 0, 0, unsafe_at(3, 0)),
-        small_rule("m2: x=1, K=0", 1, 0, safe(0)),
+        small_rule("m2: x=1, K=0", 1, 0, cut(0)),
         small_rule("m3: x=1, K=1", 1, 1, unsafe_at(8, 1)),
-        small_rule("m4: x=2, K=1", 2, 1, safe(1)),
-        known("m11: no instructions", [1, 0, 6, 0, 0, 0], 0, [], safe(0)),
+        small_rule("m4: x=2, K=1", 2, 1, cut(1)),
+        known("m11: no instructions", [1, 0, 6, 0, 0, 0], 0, [], ended(0)),
     ];
     known.extend(marked_operators().map(|(name, test)| operator(name, &test)));
     known
@@ -50,16 +51,16 @@ pub fn limits() -> Vec<KnownRun> {
     let inputs = |count| encoding::table(count, &[ASSERT_1]);
     let deep = |depth| encoding::table(0, &[assert(&ones(depth))]);
     vec![
-        thousand("1,024 instructions, x=1", 1, safe(0)),
+        thousand("1,024 instructions, x=1", 1, ended(0)),
         thousand("1,024 instructions, x=0", 0, unsafe_at(0, 0)),
         known("1,025 instructions", one_too_many, 0, [0; 4], refused(4, 0)),
-        known("S=64", inputs(64), 0, [0; 4 * 64], safe(0)),
+        known("S=64", inputs(64), 0, [0; 4 * 64], ended(0)),
         known("S=65", inputs(65), 0, [0; 4 * 65], refused(4, 0)),
         small_rule("K=255, x=255", 255, 255, unsafe_at(255 * 5 + 3, 255)),
-        small_rule("K=255, x=256", 256, 255, safe(255)),
+        small_rule("K=255, x=256", 256, 255, cut(255)),
         small_rule("K=256", 0, 256, refused(8, 0)),
         small_rule("K=2^32", 0, 1 << 32, refused(8, 0)),
-        known("16 words of depth", deep(16), 0, [], safe(0)),
+        known("16 words of depth", deep(16), 0, [], ended(0)),
         known("17 words of depth", deep(17), 0, [], refused(7, 6)),
     ]
 }
@@ -67,16 +68,23 @@ pub fn limits() -> Vec<KnownRun> {
 /// Sentences on running a table.
 pub fn runs() -> Vec<KnownRun> {
     let jump = |target, condition| [4, 0, target, 1, 0, 0, 0, condition];
+    // With x = 0: one back jump, then on to instruction 3.
+    let once: [&[u8]; 3] = [&[4, 0, 3, 2, 0], &[1, 0, 1, 0, 0, 0, 1], &jump(0, 1)];
+    let once_and = |last: &[&[u8]]| encoding::table(1, &[&once, last].concat());
     vec![
         run("the first false Assert counts", &[&ASSERT_1, &ASSERT_0, &ASSERT_0], 0, unsafe_at(1, 0)),
-        run("a false Assume ends the run safe", &[&ASSUME_0, &ASSERT_0], 0, safe(0)),
+        run("a false Assume stops the run, at place 0", &[&ASSERT_1, &ASSUME_0, &ASSERT_0], 0, stopped(0)),
+        known("an Assume stops the run after back jumps too", once_and(&[&ASSUME_0]), 1, [0; 4], stopped(1)),
         run("an Assume excuses no Assert before it", &[&ASSERT_0, &ASSUME_0], 0, unsafe_at(0, 0)),
-        run("a jump to itself is a back jump", &[&jump(0, 1)], 2, safe(2)),
-        run("a back jump past the bound ends the run", &[&jump(0, 1), &ASSERT_0], 0, safe(0)),
+        run("a jump to itself is a back jump", &[&jump(0, 1)], 2, cut(2)),
+        run("a back jump past the bound cuts the run, at place 0", &[&ASSERT_1, &jump(1, 1), &ASSERT_0], 0, cut(0)),
+        known("a bound that is used up does not", once_and(&[]), 1, [0; 4], ended(1)),
+        known("nor does one with a back jump to spare", once_and(&[]), 2, [0; 4], ended(1)),
+        run("the last instruction may cut the run", &[&ASSERT_1, &jump(0, 1)], 3, cut(3)),
         run("a false back jump goes on at the bound", &[&jump(0, 0), &ASSERT_0], 0, unsafe_at(1, 0)),
         run("a forward jump needs no bound", &[&jump(2, 1), &ASSERT_0, &ASSERT_0], 0, unsafe_at(2, 0)),
-        run("target n ends the run", &[&jump(2, 1), &ASSERT_0], 0, safe(0)),
-        run("any word but 0 is true", &[&jump(2, 255), &ASSERT_0], 0, safe(0)),
+        run("target n ends the run", &[&jump(2, 1), &ASSERT_0], 0, ended(0)),
+        run("any word but 0 is true", &[&jump(2, 255), &ASSERT_0], 0, ended(0)),
     ]
 }
 
@@ -156,12 +164,20 @@ fn known(
     Known { name: name.into(), case, answer }
 }
 
-fn safe(back_jumps: u32) -> RunAnswer {
-    RunAnswer { back_jumps, ..RunAnswer::default() }
+fn ended(back_jumps: u32) -> RunAnswer {
+    RunAnswer { verdict: ENDED, back_jumps, ..RunAnswer::default() }
+}
+
+fn stopped(back_jumps: u32) -> RunAnswer {
+    RunAnswer { verdict: STOPPED, back_jumps, ..RunAnswer::default() }
+}
+
+fn cut(back_jumps: u32) -> RunAnswer {
+    RunAnswer { verdict: CUT, back_jumps, ..RunAnswer::default() }
 }
 
 fn unsafe_at(place: u32, back_jumps: u32) -> RunAnswer {
-    RunAnswer { verdict: 1, place, back_jumps, ..RunAnswer::default() }
+    RunAnswer { verdict: UNSAFE, place, back_jumps, ..RunAnswer::default() }
 }
 
 fn refused(reply: u32, offset: u32) -> RunAnswer {

@@ -1,11 +1,12 @@
-//! Slicing a trace: document 01's marked cases, limits, sentences and refusals.
+//! Slicing a trace: document 01's marked cases, limits, sentences and refusals, in both versions of request 2026-01.
 
 use super::{judging, printing, traces, unwinding, Known, CONSTANT_1};
 use crate::case::SliceCase;
 use crate::encoding;
 use crate::listing;
 use crate::model::SliceAnswer;
-use crate::statement::{assert, assign, assume, read};
+use crate::parts::as_old_trace;
+use crate::statement::{assert, assign, assume, bound, read};
 use crate::written::Written;
 
 type KnownSlice = Known<SliceCase>;
@@ -19,11 +20,24 @@ pub fn all() -> Vec<KnownSlice> {
 
 /// The marked cases that concern slicing.
 pub fn marked() -> Vec<KnownSlice> {
-    vec![
+    let known = vec![
         sliced("m5: the small rule, K=0", &traces::SMALL_RULE_0, &small_rule_0(), 1),
         sliced("m11: no instructions", &traces::NO_INSTRUCTIONS, &encoding::trace::<&[u8]>(0, &[]), 0),
         sliced("m12: 000's example", &traces::EXAMPLE, &traces::EXAMPLE, 1),
-    ]
+    ];
+    in_both_versions(known)
+}
+
+/// Cases of version 130, then the same of version 129, in which a bound is an Assume: a slice has its trace's version.
+fn in_both_versions(known: Vec<KnownSlice>) -> Vec<KnownSlice> {
+    let old: Vec<KnownSlice> = known.iter().map(in_old_version).collect();
+    known.into_iter().chain(old).collect()
+}
+
+fn in_old_version(Known { name, case, answer }: &KnownSlice) -> KnownSlice {
+    let slice = as_old_trace(&answer.outs[0][..answer.answer.length as usize]);
+    let case = SliceCase { trace: as_old_trace(&case.trace), room: case.room };
+    Known { name: format!("{name}, version 129"), answer: Written::known(answer.answer, &slice, case.room), case }
 }
 
 pub fn small_rule_0() -> Vec<u8> {
@@ -35,6 +49,7 @@ pub fn small_rule_0() -> Vec<u8> {
 pub fn limits() -> Vec<KnownSlice> {
     let asserts = encoding::trace(0, &vec![assert(1, &CONSTANT_1); 4096]);
     let assumes = encoding::trace(0, &vec![assume(1, &CONSTANT_1); 4096]);
+    let bounds = encoding::trace(0, &vec![bound(1, &CONSTANT_1); 4096]);
     let one_more = encoding::trace(0, &vec![assert(1, &CONSTANT_1); 4097]);
     let last_symbol = encoding::trace(64, &[assign(1, 4159, &CONSTANT_1), assert(2, &read(4159))]);
     let inputs: Vec<Vec<u8>> = (0..64).map(|symbol| assert(symbol, &read(symbol))).collect();
@@ -42,9 +57,10 @@ pub fn limits() -> Vec<KnownSlice> {
     let one_too_many = encoding::trace(65, &[assert(1, &read(0))]);
     let long = judging::negated_to(65_535);
     let chain = judging::turned_4095_times();
-    vec![
+    in_both_versions(vec![
         sliced("4,096 Asserts", &asserts, &asserts, 0),
         sliced("4,096 Assumes", &assumes, &encoding::trace::<&[u8]>(0, &[]), 0),
+        sliced("4,096 bounds", &bounds, &encoding::trace::<&[u8]>(0, &[]), 0),
         refused("4,097 Asserts", &one_more, (4, 0)),
         sliced("4,095 symbols, each made of the one before", &chain, &chain, 1),
         sliced("65,535 bytes", &long, &long, 0),
@@ -52,16 +68,25 @@ pub fn limits() -> Vec<KnownSlice> {
         sliced("S=64, symbol 4,159", &last_symbol, &last_symbol, 0),
         sliced("S=64, all inputs read", &inputs, &inputs, u64::MAX),
         refused("S=65", &one_too_many, (4, 0)),
-    ]
+    ])
 }
 
 /// Sentences on the slice. Each line says whether its statement is kept.
 pub fn slices() -> Vec<KnownSlice> {
     let thousand = unwinding::thousand_asserts(1);
-    vec![
+    in_both_versions(vec![
         slice("every Assert is kept", 2, 0b11, &["keep 1 assert s1", "keep 2 assert 1", "keep 3 assert s0"]),
         slice("an Assume is kept if an Assert follows", 1, 0b1, &["keep 1 assume s0", "keep 2 assert 1"]),
         slice("an Assume is dropped if none follows", 1, 0, &["keep 1 assert 1", "drop 2 assume s0"]),
+        slice("a bound is kept if an Assert follows", 1, 0b1, &["keep 1 bound s0", "keep 2 assert 1"]),
+        slice("a bound is dropped if none follows", 1, 0, &["keep 1 assert 1", "drop 2 bound s0", "drop 3 assume 1"]),
+        slice("no bound is an Assert", 1, 0, &["drop 1 assume s0", "drop 2 assign s1 s0", "drop 3 bound s1"]),
+        slice(
+            "what a kept bound reads is needed",
+            2,
+            0b10,
+            &["keep 1 assign s2 s1", "keep 2 bound s2", "keep 3 assert 1", "drop 4 bound s0"],
+        ),
         slice(
             "an Assert may follow anywhere later",
             2,
@@ -125,7 +150,7 @@ pub fn slices() -> Vec<KnownSlice> {
             &["drop 1 assign s3 1", "keep 3 assert 3", "keep 3 assert 50331651"],
         ),
         sliced("the last exit of a written trace is dropped", &thousand, &without_last_statement(&thousand, 25), 1),
-    ]
+    ])
 }
 
 fn without_last_statement(trace: &[u8], length: usize) -> Vec<u8> {
@@ -141,7 +166,7 @@ pub fn rooms() -> Vec<KnownSlice> {
     let trace = &traces::SMALL_RULE_0;
     let too_little = |name, room| refused_with(name, trace, room, (10, 0));
     let enough = |name, room| sliced_into(name, trace, room, &small_rule_0(), 1);
-    vec![
+    in_both_versions(vec![
         too_little("no room", 0),
         too_little("room for the header alone", 6),
         too_little("room for all but a byte", 101),
@@ -150,12 +175,12 @@ pub fn rooms() -> Vec<KnownSlice> {
         enough("more room than a slice can take", 100_000),
         refused_with("a slice of no statement needs 6 bytes", &traces::NO_INSTRUCTIONS, 5, (10, 0)),
         refused_with("7 before 10", &encoding::trace(0, &[assume(1, &[])]), 0, (7, 6)),
-    ]
+    ])
 }
 
 /// What judging refuses for its trace, slicing refuses too.
 pub fn refusals() -> Vec<KnownSlice> {
-    let judgements = [judging::refusals(), judging::unknown_kinds(), judging::unknown_tokens()];
+    let judgements = [judging::refusals(), judging::bounds(), judging::unknown_kinds(), judging::unknown_tokens()];
     let of_trace = judgements.into_iter().flatten().filter(|known| (1..=7).contains(&known.answer.reply));
     of_trace.map(|Known { name, case, answer }| refused(&name, &case.trace, (answer.reply, answer.offset))).collect()
 }

@@ -1,4 +1,4 @@
-//! Writing a trace: document 01's marked cases, limits, sentences and refusals.
+//! Writing a trace: document 01's marked cases, limits, sentences and refusals, with request 2026-01's version and bounds.
 
 use super::{ones, running, traces, Known, CONSTANT_0, CONSTANT_1};
 use crate::case::TraceCase;
@@ -120,7 +120,7 @@ pub fn unwindings() -> Vec<KnownTrace> {
             "a jump to itself is a back jump, cut off in copy K",
             &to_itself,
             0,
-            &trace(0, &["65535 assign s0 0", "0 assume s0 0 ule 1 zero 1 ite", "1 assign s1 s0 1 ule 2 s0 ite"]),
+            &trace(0, &["65535 assign s0 0", "0 bound s0 0 ule 1 zero 1 ite", "1 assign s1 s0 1 ule 2 s0 ite"]),
         ),
         written(
             "a back jump goes to the next copy",
@@ -132,7 +132,7 @@ pub fn unwindings() -> Vec<KnownTrace> {
                     "65535 assign s0 0",
                     "0 assign s1 s0 0 ule 1 2 s0 ite s0 ite",
                     "1 assign s2 s1 1 ule 4 s1 ite",
-                    "2 assume s2 2 ule 1 zero 1 ite",
+                    "2 bound s2 2 ule 1 zero 1 ite",
                     "3 assign s3 s2 3 ule 4 s2 ite",
                 ],
             ),
