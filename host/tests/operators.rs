@@ -12,6 +12,7 @@ use host::encoding;
 use host::generate::random::Random;
 use host::model::JudgeAnswer;
 use host::statement::{assert, assign, read};
+use host::verdict::UNSAFE;
 
 /// Document 01, "Arithmetic": an operator, its token and its meaning in SMT-LIB.
 struct Operator {
@@ -131,7 +132,7 @@ fn equality_and_contrary(term: &Term, word: u32) -> JudgeCase {
 }
 
 fn unsafe_at(place: u32) -> JudgeAnswer {
-    JudgeAnswer { verdict: 1, place, ..JudgeAnswer::default() }
+    JudgeAnswer { verdict: UNSAFE, place, ..JudgeAnswer::default() }
 }
 
 fn standard() -> &'static [(Term, u32)] {

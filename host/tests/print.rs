@@ -12,11 +12,12 @@ use host::program::Printed;
 const REPLIES: [u32; 8] = [1, 2, 3, 4, 5, 6, 7, 9];
 
 /// What generated cases have to show, so many of 100,000.
-const DUE: [(&str, u64); 28] = [
+const DUE: [(&str, u64); 29] = [
     ("printed", 10_000),
     ("printed, assign", 10_000),
     ("printed, assume", 10_000),
     ("printed, assert", 10_000),
+    ("printed, bound", 10_000),
     ("printed, nothing kept", 1_000),
     ("printed, K: 0", 2_000),
     ("printed, K: 1 to 9", 2_000),

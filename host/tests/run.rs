@@ -5,23 +5,34 @@ use host::cases::running as cases;
 use host::checks;
 use host::hold::{hold, hold_features, hold_known};
 use host::model::{self, RunAnswer};
-use host::parts::{without_self_jumps, Parts};
-
-const ASSERT_0: [u8; 6] = [3, 1, 0, 0, 0, 0];
+use host::parts::without_self_jumps;
+use host::verdict;
 
 /// The replies that generated cases have to reach.
 const REPLIES: [u32; 10] = [0, 1, 2, 3, 4, 5, 6, 7, 8, 11];
 
 /// What generated cases have to show, so many of 100,000.
-const DUE: [(&str, u64); 22] = [
-    ("safe", 200),
-    ("safe, back jumps: 1", 200),
-    ("safe, back jumps: 2 to 9", 200),
-    ("safe, back jumps: 10 to 100", 200),
-    ("safe, back jumps: 101 to 254", 200),
-    ("safe, back jumps: 255", 200),
-    ("safe, a bound above 0 used up", 200),
-    ("safe past the last instruction, back jumps taken and to spare", 200),
+const DUE: [(&str, u64); 34] = [
+    ("ended", 200),
+    ("ended, back jumps: 1", 200),
+    ("ended, back jumps: 2 to 9", 200),
+    ("ended, back jumps: 10 to 100", 50),
+    ("ended, back jumps: 101 to 254", 50),
+    ("ended, back jumps: 255", 50),
+    ("ended, a bound above 0 used up", 200),
+    ("ended, back jumps taken and to spare", 200),
+    ("stopped", 200),
+    ("stopped, back jumps: 1", 50),
+    ("stopped, back jumps: 2 to 9", 50),
+    ("stopped, back jumps: 101 to 254", 50),
+    ("stopped, back jumps: 255", 50),
+    ("stopped, a bound above 0 used up", 50),
+    ("cut", 200),
+    ("cut, back jumps: none", 200),
+    ("cut, back jumps: 1", 200),
+    ("cut, back jumps: 2 to 9", 200),
+    ("cut, back jumps: 101 to 254", 200),
+    ("cut, back jumps: 255", 200),
     ("unsafe", 200),
     ("unsafe, back jumps: 1", 200),
     ("unsafe, back jumps: 2 to 9", 200),
@@ -104,7 +115,7 @@ fn a_table_of_1024_asserts_has_5126_bytes() {
 }
 
 #[test]
-fn the_generated_cases_reach_every_reply_both_verdicts_and_later_copies() {
+fn the_generated_cases_reach_every_reply_every_verdict_and_later_copies() {
     hold_features(&checks::RUN, features, &REPLIES, &DUE);
 }
 
@@ -113,19 +124,24 @@ fn the_archive_gives_the_models_answer_on_every_case() {
     hold(&checks::RUN);
 }
 
+#[test]
+fn an_unsafe_run_took_at_most_k_back_jumps_and_its_place_is_that_of_an_instruction_in_their_copy() {
+    hold(&checks::WITHIN);
+}
+
 /// What a case shows, in the words of `DUE`.
 fn features(case: &RunCase, answer: RunAnswer) -> Vec<String> {
     if answer.reply != 0 {
         return vec![];
     }
-    let verdict = if answer.verdict == 0 { "safe" } else { "unsafe" };
+    let verdict = verdict::name(answer.verdict);
     let instructions = instructions(case);
     let without_self_jumps = answer_without_self_jumps(case, answer);
     let shown = [
         (true, verdict.into()),
         (true, format!("{verdict}, back jumps: {}", range(answer.back_jumps))),
         (case.bound > 0 && case.bound == answer.back_jumps.into(), format!("{verdict}, a bound above 0 used up")),
-        (is_past_the_last(case, answer), "safe past the last instruction, back jumps taken and to spare".into()),
+        (is_to_spare(case, answer), format!("{verdict}, back jumps taken and to spare")),
         (failed_instruction(case, answer) >= 1_000, "unsafe, instruction 1,000 or later".into()),
         (answer.place > 65_535, "unsafe, place above 65,535".into()),
         (without_self_jumps.verdict != answer.verdict, "a jump to itself decides the verdict".into()),
@@ -153,21 +169,13 @@ fn range(back_jumps: u32) -> &'static str {
     }
 }
 
-/// 0 in a safe run.
+/// 0 unless the run is unsafe.
 fn failed_instruction(case: &RunCase, answer: RunAnswer) -> u32 {
     answer.place.saturating_sub(answer.back_jumps * (instructions(case) + 1))
 }
 
-/// Whether the run ends there and not at an Assume or at its bound: a false Assert behind the last instruction is met.
-fn is_past_the_last(case: &RunCase, answer: RunAnswer) -> bool {
-    let to_spare = 0 < answer.back_jumps && u64::from(answer.back_jumps) < case.bound;
-    to_spare && answer.verdict == 0 && run_table(case, &with_false_assert(&case.table)).verdict == 1
-}
-
-fn with_false_assert(table: &[u8]) -> Vec<u8> {
-    let mut parts = Parts::of(table).expect("a whole header");
-    parts.records.push(ASSERT_0.to_vec());
-    parts.join()
+fn is_to_spare(case: &RunCase, answer: RunAnswer) -> bool {
+    0 < answer.back_jumps && u64::from(answer.back_jumps) < case.bound
 }
 
 fn answer_without_self_jumps(case: &RunCase, answer: RunAnswer) -> RunAnswer {

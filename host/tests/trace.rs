@@ -6,6 +6,7 @@ use host::cases::{running, unwinding as cases};
 use host::checks;
 use host::hold::{hold, hold_features, hold_known};
 use host::model::{self, RunAnswer, TraceAnswer};
+use host::verdict;
 use host::written::{fit, whole, Written, LENGTH_LIMIT};
 
 /// The replies that generated cases have to reach.
@@ -32,10 +33,15 @@ const DUE: [(&str, u64); 16] = [
 ];
 
 /// What runs have to show beside written traces, so many of 100,000.
-const RUNS_DUE: [(&str, u64); 8] = [
-    ("safe", 10_000),
-    ("safe, back jumps taken", 1_000),
-    ("safe, a bound above 0 used up", 200),
+const RUNS_DUE: [(&str, u64); 13] = [
+    ("ended", 5_000),
+    ("ended, back jumps taken", 1_000),
+    ("ended, a bound above 0 used up", 200),
+    ("stopped", 200),
+    ("stopped, back jumps taken", 200),
+    ("cut", 1_000),
+    ("cut, back jumps taken", 1_000),
+    ("cut, more than 100 back jumps taken", 20),
     ("unsafe", 5_000),
     ("unsafe, back jumps taken", 1_000),
     ("unsafe, more than 100 back jumps taken", 20),
@@ -129,12 +135,12 @@ fn the_archive_gives_the_models_answer_and_bytes_on_every_case() {
 }
 
 #[test]
-fn the_generated_runs_with_a_trace_reach_both_verdicts_and_later_copies() {
+fn the_generated_runs_with_a_trace_reach_every_verdict_and_later_copies() {
     hold_features(&checks::DEMAND_3, run_features, &[], &RUNS_DUE);
 }
 
 #[test]
-fn running_a_table_judging_its_trace_and_judging_the_slice_give_one_verdict_and_place() {
+fn running_a_table_and_judging_its_trace_give_one_verdict_and_place_and_the_slice_is_unsafe_with_them() {
     hold(&checks::DEMAND_3);
 }
 
@@ -201,7 +207,7 @@ fn run_features(case: &RunCase, answer: RunAnswer) -> Vec<String> {
     if answer.reply != 0 {
         return vec![format!("a trace, refused {}", answer.reply)];
     }
-    let verdict = if answer.verdict == 0 { "safe" } else { "unsafe" };
+    let verdict = verdict::name(answer.verdict);
     let shown = [
         (true, ""),
         (answer.back_jumps > 0, ", back jumps taken"),
