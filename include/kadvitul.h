@@ -2,9 +2,8 @@
  *
  * A rule is a table of bytes, and a trace is a file of bytes too; docs/FORMAT.md says what they hold. Every call but
  * kadvitul_version takes any bytes at all and gives one number of the documented answer; the calls that belong together give the numbers of
- * one and the same answer. Nothing is kept
- * between calls, nothing is allocated, no pointer is kept, and calls may run at the same time on several threads. A pointer may be NULL
- * where its length is 0.
+ * one and the same answer. Nothing is kept between calls, nothing is allocated, no pointer is kept, and calls may run at the same time on
+ * several threads. A pointer may be NULL where its length is 0.
  *
  * The calls that write fill out from its first byte and leave the rest of it as it was; a refusal leaves all of it. Each of them does so,
  * whichever number it gives. out must not overlap the file. KADVITUL_ROOM bytes hold every result, and a slice never takes more than its
@@ -44,38 +43,44 @@ enum kadvitul_reply {
     KADVITUL_WRONG_VALUATION = 11  /* the valuation has not 4 bytes for each input */
 };
 
-/* Verdicts. A refusal has KADVITUL_SAFE too: ask the reply first. */
+/* Verdicts: how a run or a judging came to its end. All but KADVITUL_UNSAFE have place 0. A refusal has KADVITUL_ENDED too: ask the reply
+ * first. None of them is the one "safe": a cut run was not followed to its end, and a merge must not rest on it. */
 enum kadvitul_verdict {
-    KADVITUL_SAFE = 0,
-    KADVITUL_UNSAFE = 1
+    KADVITUL_ENDED = 0,   /* past the last instruction or statement */
+    KADVITUL_UNSAFE = 1,  /* at a false Assert */
+    KADVITUL_STOPPED = 2, /* at a false Assume: nothing is claimed of what follows it */
+    KADVITUL_CUT = 3      /* by the bound: nothing is known of what follows it */
 };
 
 uint32_t kadvitul_version(void);
 
-/* Running a table under a bound on its back jumps. The valuation has 4 bytes, big-endian, for each input.
- * An unsafe run has a place, back_jumps * (instructions + 1) + the instruction that failed. */
+/* Running a table under a bound on its back jumps. The valuation has 4 bytes, big-endian, for each input. An unsafe run took at most bound
+ * back jumps, and has the place back_jumps * (instructions + 1) + the instruction that failed. A run is cut where it would take a back jump
+ * more than the bound. */
 uint32_t kadvitul_run_reply(const uint8_t *table, size_t table_len, uint64_t bound, const uint8_t *valuation, size_t valuation_len);
 uint32_t kadvitul_run_offset(const uint8_t *table, size_t table_len, uint64_t bound, const uint8_t *valuation, size_t valuation_len);
 uint32_t kadvitul_run_verdict(const uint8_t *table, size_t table_len, uint64_t bound, const uint8_t *valuation, size_t valuation_len);
 uint32_t kadvitul_run_place(const uint8_t *table, size_t table_len, uint64_t bound, const uint8_t *valuation, size_t valuation_len);
 uint32_t kadvitul_run_back_jumps(const uint8_t *table, size_t table_len, uint64_t bound, const uint8_t *valuation, size_t valuation_len);
 
-/* Judging a trace under a valuation of its inputs: the first Assume or Assert that is false ends it. It is unsafe if that is an Assert,
- * with the place that the trace gives it, and safe otherwise. */
+/* Judging a trace, of version 130 or 129, under a valuation of its inputs: the first false test decides. A false Assert is unsafe, with the
+ * place that the trace gives it; a false Assume stops, a false bound cuts. A trace of version 129 has an Assume for the bound, so there a
+ * cut shows as KADVITUL_STOPPED. */
 uint32_t kadvitul_judge_reply(const uint8_t *trace, size_t trace_len, const uint8_t *valuation, size_t valuation_len);
 uint32_t kadvitul_judge_offset(const uint8_t *trace, size_t trace_len, const uint8_t *valuation, size_t valuation_len);
 uint32_t kadvitul_judge_verdict(const uint8_t *trace, size_t trace_len, const uint8_t *valuation, size_t valuation_len);
 uint32_t kadvitul_judge_place(const uint8_t *trace, size_t trace_len, const uint8_t *valuation, size_t valuation_len);
 
-/* Writing the trace of a table under a bound on its back jumps. The length is that of the trace; judging the trace gives the verdict and
- * the place of running the table under the same bound. */
+/* Writing the trace of a table, of version 130, under a bound on its back jumps. The length is that of the trace; judging the whole trace
+ * gives the verdict, one of all four, and the place of running the table under the same bound. */
 uint32_t kadvitul_trace_reply(const uint8_t *table, size_t table_len, uint64_t bound, uint8_t *out, size_t out_len);
 uint32_t kadvitul_trace_offset(const uint8_t *table, size_t table_len, uint64_t bound, uint8_t *out, size_t out_len);
 uint32_t kadvitul_trace_length(const uint8_t *table, size_t table_len, uint64_t bound, uint8_t *out, size_t out_len);
 
-/* Slicing a trace: the statements that its Asserts depend on. The length is that of the slice, which is a trace too and is judged like the
- * whole. Bit s of the mask is set when the slice reads input s, and inputs is the count of its ones; no other input changes the verdict or
- * the place. */
+/* Slicing a trace: the statements that its Asserts depend on. The length is that of the slice, which is a trace of the same version. It is
+ * unsafe where the whole is, at the same place, and nowhere else; but it may end where the whole is stopped or cut, so judge the whole to
+ * tell these. Bit s of the mask is set when the slice reads input s, and inputs is the count of its ones; no other input changes whether
+ * the trace is unsafe, or the place. */
 uint32_t kadvitul_slice_reply(const uint8_t *trace, size_t trace_len, uint8_t *out, size_t out_len);
 uint32_t kadvitul_slice_offset(const uint8_t *trace, size_t trace_len, uint8_t *out, size_t out_len);
 uint32_t kadvitul_slice_length(const uint8_t *trace, size_t trace_len, uint8_t *out, size_t out_len);
