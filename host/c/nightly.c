@@ -6,8 +6,12 @@
  * VALUATIONS has one valuation after the other, 4 bytes big-endian for each input; FILE's byte 3 says how many inputs there are. A file
  * without valuations, or with a part of one at its end, is handed over as it is, and refused by its length where there are inputs.
  *
- * Exit status: 0 all safe; 1 wrong usage; 2 a call refused, whatever the others said; 3 a file cannot be read, the output not be written,
- * or the archive is of another version; 4 some unsafe. */
+ * What a verdict means for the merge: ended, merge. Stopped, merge: the rule says nothing of stamps for which its assumption does not hold.
+ * Unsafe, do not merge. Cut, do not merge: the bound was too small to tell. A trace of version 129 shows a cut as stopped, so there stopped
+ * is no merge either. FILE has to be a whole trace: a slice may end where its trace is cut.
+ *
+ * Exit status: 0 merge all; 1 wrong usage; 2 a call refused, whatever the others said; 3 a file cannot be read, the output not be written,
+ * or the archive is of another version; 4 some unsafe; 5 none unsafe, but some that the bound may have cut. */
 #include <errno.h>
 #include <inttypes.h>
 #include <stdio.h>
@@ -16,7 +20,10 @@
 
 #include "kadvitul.h"
 
-enum { ALL_SAFE = 0, USAGE = 1, REFUSED = 2, UNREADABLE = 3, SOME_UNSAFE = 4 };
+enum { MERGE_ALL = 0, USAGE = 1, REFUSED = 2, UNREADABLE = 3, SOME_UNSAFE = 4, SOME_CUT = 5 };
+
+/* The trace version in which a cut shows as stopped. */
+enum { OLD_TRACE = 129 };
 
 enum { FIRST_ROOM = 4096 };
 
@@ -40,18 +47,18 @@ static int read_stream(FILE *stream, struct bytes *file) {
     if (file->len == 0) {
         free(file->at);
         file->at = NULL;
-        return ALL_SAFE;
+        return MERGE_ALL;
     }
     uint8_t *exact = realloc(file->at, file->len);
     if (exact != NULL) file->at = exact;
-    return ALL_SAFE;
+    return MERGE_ALL;
 }
 
 static int read_file(const char *path, struct bytes *file) {
     FILE *stream = fopen(path, "rb");
     int status = stream == NULL ? UNREADABLE : read_stream(stream, file);
     if (stream != NULL && fclose(stream) != 0) status = UNREADABLE;
-    if (status != ALL_SAFE) fprintf(stderr, "nightly: %s cannot be read\n", path);
+    if (status != MERGE_ALL) fprintf(stderr, "nightly: %s cannot be read\n", path);
     return status;
 }
 
@@ -77,35 +84,61 @@ static int refused(const char *what, uint32_t reply, uint32_t offset) {
     return REFUSED;
 }
 
+/* Says what an accepted call's verdict means for the merge, behind the verdict itself. A verdict that kadvitul.h does not list is none to
+ * merge on. */
+static int merge(uint32_t verdict, int tells_cut) {
+    switch (verdict) {
+    case KADVITUL_ENDED: printf(": merge\n"); return MERGE_ALL;
+    case KADVITUL_STOPPED:
+        if (!tells_cut) {
+            printf(": do not merge: a trace of version 129 does not tell this from a cut; write it anew\n");
+            return SOME_CUT;
+        }
+        printf(": merge: the rule's assumption does not hold for these stamps\n");
+        return MERGE_ALL;
+    case KADVITUL_CUT: printf(": do not merge: the bound was too small to tell; raise K\n"); return SOME_CUT;
+    default: printf(": do not merge\n"); return SOME_UNSAFE;
+    }
+}
+
+static void print_verdict(uint32_t verdict, uint32_t place) {
+    switch (verdict) {
+    case KADVITUL_ENDED: printf("ended"); break;
+    case KADVITUL_UNSAFE: printf("unsafe at %" PRIu32, place); break;
+    case KADVITUL_STOPPED: printf("stopped"); break;
+    case KADVITUL_CUT: printf("cut"); break;
+    default: printf("verdict %" PRIu32 ", which kadvitul.h does not list", verdict);
+    }
+}
+
 static int run(const struct bytes *f, uint64_t bound, const uint8_t *valuation, size_t len) {
     uint32_t reply = kadvitul_run_reply(f->at, f->len, bound, valuation, len);
     if (reply != KADVITUL_DONE) return refused("run", reply, kadvitul_run_offset(f->at, f->len, bound, valuation, len));
-    uint32_t back_jumps = kadvitul_run_back_jumps(f->at, f->len, bound, valuation, len);
-    if (kadvitul_run_verdict(f->at, f->len, bound, valuation, len) == KADVITUL_SAFE) {
-        printf("safe, back jumps %" PRIu32 ": merge\n", back_jumps);
-        return ALL_SAFE;
-    }
-    uint32_t place = kadvitul_run_place(f->at, f->len, bound, valuation, len);
-    printf("unsafe at %" PRIu32 ", back jumps %" PRIu32 ": hold the merge\n", place, back_jumps);
-    return SOME_UNSAFE;
+    uint32_t verdict = kadvitul_run_verdict(f->at, f->len, bound, valuation, len);
+    print_verdict(verdict, kadvitul_run_place(f->at, f->len, bound, valuation, len));
+    printf(", back jumps %" PRIu32, kadvitul_run_back_jumps(f->at, f->len, bound, valuation, len));
+    return merge(verdict, 1);
 }
 
 static int judge(const struct bytes *f, const uint8_t *valuation, size_t len) {
     uint32_t reply = kadvitul_judge_reply(f->at, f->len, valuation, len);
     if (reply != KADVITUL_DONE) return refused("judging", reply, kadvitul_judge_offset(f->at, f->len, valuation, len));
-    if (kadvitul_judge_verdict(f->at, f->len, valuation, len) == KADVITUL_SAFE) {
-        printf("safe: merge\n");
-        return ALL_SAFE;
-    }
-    printf("unsafe at %" PRIu32 ": hold the merge\n", kadvitul_judge_place(f->at, f->len, valuation, len));
-    return SOME_UNSAFE;
+    uint32_t verdict = kadvitul_judge_verdict(f->at, f->len, valuation, len);
+    print_verdict(verdict, kadvitul_judge_place(f->at, f->len, valuation, len));
+    return merge(verdict, f->at[0] != OLD_TRACE);
+}
+
+/* What two valuations come to: unsafe outweighs cut. */
+static int worse(int one, int other) {
+    if (one == SOME_UNSAFE || other == SOME_UNSAFE) return SOME_UNSAFE;
+    return one == SOME_CUT ? one : other;
 }
 
 /* A refusal ends the job. The bound is NULL for a trace. */
 static int decide(const struct bytes *file, const uint64_t *bound, const struct bytes *valuations) {
     size_t step = file->len > 3 ? 4 * (size_t)file->at[3] : 0;
     size_t start = 0, number = 0;
-    int status = ALL_SAFE;
+    int status = MERGE_ALL;
     do {
         size_t rest = valuations->len - start;
         size_t len = step > 0 && step < rest ? step : rest;
@@ -113,7 +146,7 @@ static int decide(const struct bytes *file, const uint64_t *bound, const struct 
         printf("valuation %zu: ", number);
         int one = bound == NULL ? judge(file, valuation, len) : run(file, *bound, valuation, len);
         if (one == REFUSED) return REFUSED;
-        if (one == SOME_UNSAFE) status = SOME_UNSAFE;
+        status = worse(status, one);
         start += len;
         number++;
     } while (start < valuations->len);
@@ -127,7 +160,7 @@ static int slice(const uint8_t *trace, uint32_t len, uint8_t *out) {
     printf("slice: %" PRIu32 " of the trace's %" PRIu32 " bytes, reads %" PRIu32 " of %d inputs, mask %" PRIx64 "\n",
            kadvitul_slice_length(trace, len, out, len), len, kadvitul_slice_inputs(trace, len, out, len), trace[3],
            kadvitul_slice_mask(trace, len, out, len));
-    return ALL_SAFE;
+    return MERGE_ALL;
 }
 
 static int trace_and_slice(const struct bytes *f, uint64_t bound) {
@@ -140,9 +173,9 @@ static int trace_and_slice(const struct bytes *f, uint64_t bound) {
 static int job(const uint64_t *bound, const char *path, const char *valuations_path) {
     struct bytes file = {NULL, 0}, valuations = {NULL, 0};
     int status = read_file(path, &file);
-    if (status == ALL_SAFE) status = read_file(valuations_path, &valuations);
-    if (status == ALL_SAFE) status = decide(&file, bound, &valuations);
-    int is_decided = status == ALL_SAFE || status == SOME_UNSAFE;
+    if (status == MERGE_ALL) status = read_file(valuations_path, &valuations);
+    if (status == MERGE_ALL) status = decide(&file, bound, &valuations);
+    int is_decided = status == MERGE_ALL || status == SOME_UNSAFE || status == SOME_CUT;
     if (is_decided && bound != NULL && trace_and_slice(&file, *bound) == REFUSED) status = REFUSED;
     free(file.at);
     free(valuations.at);
