@@ -62,8 +62,8 @@ pub fn demand_3(case: &RunCase, calls: &dyn Calls) -> Asked {
     Asked { reply: expected.reply, counts: expected.reply == 0, wrong }
 }
 
-/// An unsafe run took no more back jumps than its bound, and its place is that of an instruction in the copy of so many; a cut
-/// run took as many. All but unsafe have place 0. It says nothing of a refused case.
+/// An unsafe run took no more back jumps than its bound, and its place is that of an instruction in the copy of so many;
+/// a cut run took as many as its bound. All but unsafe have place 0. It says nothing of a refused case.
 pub fn within(case: &RunCase, calls: &dyn Calls) -> Asked {
     let Judgement { reply, verdict, place } = run(case, calls);
     if reply != 0 {

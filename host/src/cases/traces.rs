@@ -1,4 +1,5 @@
-//! Document 01's traces as bytes, as request 2026-01 has them written. Lines are parts of a statement: its head, then W j ule, then BODY, then OLD ite.
+//! Document 01's traces as bytes, as request 2026-01 has them written. Lines are parts of a statement: its head, then
+//! W j ule, then BODY, then OLD ite.
 
 /// The small rule under K = 0.
 pub const SMALL_RULE_0: [u8; 156] = [

@@ -1,5 +1,5 @@
-//! Document 01, "The trace under bound K": "Judging is EvalTrace", which source document 000 gives in chapter 3; request 2026-01
-//! says how it ends.
+//! Document 01, "The trace under bound K": "Judging is EvalTrace", which source document 000 gives in chapter 3; request
+//! 2026-01 says how it ends.
 
 use super::end::End;
 use super::expression::{evaluate, InTrace};
