@@ -215,7 +215,11 @@ module _ (b : List ℕ) (K : ℕ) (head : Head) (is : List Instr) (t : List ℕ)
   judged-old v =
       let shown = judge-unwind Assume S is K v (table .ok) in
       let old = shown-old ((run is K v) .outcome) in
-      same-as-run (encodeTrace oldHead olds) old-back refl cutAsStopped refl v (old .0 ∙ sym (ap verdict shown), old .1 ∙ sym (ap placeOf shown))
+      same-as-run (encodeTrace oldHead olds) old-back refl cutAsStopped refl v (
+        old .0 ∙ sym (ap verdict shown),
+        old .1
+            ∙ sym (ap placeOf shown),
+      )
 
   -- ---- within the bound
 
@@ -267,7 +271,8 @@ module _ (b : List ℕ) (K : ℕ) (head : Head) (is : List Instr) (t : List ℕ)
     run-decided : RunAlike (runAnswer b K v) (runAnswer b K u)
     run-decided =
         subst⁻¹ (λ r. RunAlike r (runAnswer b K u)) (run-done v (a .first-length))
-        (subst⁻¹ (RunAlike (Running.answerOf (run is K v))) (run-done u (a .second-length)) (numbers-alike ((run is K v) .outcome) ((run is K u) .outcome) runs-alike))
+        (subst⁻¹ (RunAlike (Running.answerOf (run is K v))) (run-done u (a .second-length))
+        (numbers-alike ((run is K v) .outcome) ((run is K u) .outcome) runs-alike))
 
     judge-decided : (s : List ℕ) {us : List Stmt} → readTrace s ≡ Accepted (traceHead S) us
         → Outcomes.Alike (judge us (envOf v)) (judge us (envOf u)) → Alike (judgeAnswer s v) (judgeAnswer s u)
@@ -354,7 +359,8 @@ module _ (b : List ℕ) (K : ℕ) (head : Head) (is : List Instr) (t : List ℕ)
     old-answer : (v : List ℕ) → Same cutAsStopped (ranWith h b K v) (judgedWith h (oldTrace b K) v)
     old-answer v =
         subst⁻¹ (λ s. Same cutAsStopped (ranWith h b K v) (judgedWith h s v)) old-bytes
-        (both (Same cutAsStopped) (encodeTrace oldHead olds) v (judged-as (encodeTrace oldHead olds) old-back refl v) (judged-old (wordsIn h S v)))
+        (both (Same cutAsStopped) (encodeTrace oldHead olds) v (judged-as (encodeTrace oldHead olds) old-back refl v)
+        (judged-old (wordsIn h S v)))
 
   written-demand : Demand3 b K t
   written-demand = record {

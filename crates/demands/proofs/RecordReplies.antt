@@ -232,7 +232,8 @@ module _ (s : List ℕ) (o : All Byte s) (k at : ℕ) where
         (ruled Table s o k at there 3 (fields-known Table s at 4 e) h (TableSpec.IfThenGoto y) (leb y n) (target-ruled y q kind)
         (λ u. target-past-the-end kind (omega (arith, q, leb-false y n u))))))
 
-    instr-test-decided : (v : ℕ) (t : Kind) → eqb (kindAt s at) v ≡ true → fields Table (headerVersion s) v ≡ some 1 → (v ≡ 1 → ⊥) → (v ≡ 4 → ⊥)
+    instr-test-decided : (v : ℕ) (t : Kind) → eqb (kindAt s at) v ≡ true → fields Table (headerVersion s) v ≡ some 1 → (v ≡ 1 → ⊥)
+        → (v ≡ 4 → ⊥)
         → instr S n instrBytes ≡ TableSpec.test S t (drop 1 instrBytes) → Decided Table s k at (instr S n instrBytes)
     instr-test-decided v t e f p r q =
         let kind : kindAt s at ≡ v = eqb-true (kindAt s at) v e in

@@ -5,7 +5,8 @@
 --   violated, and all three name one and the same place. Two valuations that agree on the inputs the slice reports as read get one verdict
 --   and one place."
 --
--- and, since 2026-01: run and whole trace agree on all four verdicts and the place; slice and two valuations on unsafe or not, and the place.
+-- and, since 2026-01: run and whole trace agree on all four verdicts and the place; slice and two valuations on unsafe or not, and the
+-- place.
 --
 -- It is stated over bytes and over the answers that the public calls are proved to give: running and judging with a valuation as words
 -- or as bytes (`ranWith`, `judgedWith`), `traceAnswer` of writing a trace, `sliceAnswer` of slicing. That the numbers of a valuation are

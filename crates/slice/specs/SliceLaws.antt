@@ -2,12 +2,12 @@
 -- accepted trace is accepted; and slicing a slice changes nothing.
 --
 -- Why dropping is right. Walk the trace from its last statement back. An Assign is dropped only if its symbol is not needed: no kept
--- statement behind it reads that symbol, so whatever it stores, the kept statements see the same values. An Assume, or a test of
--- the bound, is dropped only if no Assert follows it: then nothing behind it can fail an Assert, and the rest is not unsafe whether the
--- test holds or not. Every Assert is kept, and what a kept statement reads is needed: so in two environments that agree on what the slice reads, a
--- kept statement has one value, and trace and slice go on alike or fail alike. What is left is well formed: a kept statement reads
--- inputs, or symbols whose Assign is kept because it reads them, and the assigned symbols still rise. A slice has an Assert
--- exactly if its trace has one, so each kept statement is kept again, and slicing a slice changes nothing.
+-- statement behind it reads that symbol, so whatever it stores, the kept statements see the same values. An Assume, or a test of the
+-- bound, is dropped only if no Assert follows it: then nothing behind it can fail an Assert, and the rest is not unsafe whether the test
+-- holds or not. Every Assert is kept, and what a kept statement reads is needed: so in two environments that agree on what the slice
+-- reads, a kept statement has one value, and trace and slice go on alike or fail alike. What is left is well formed: a kept statement
+-- reads inputs, or symbols whose Assign is kept because it reads them, and the assigned symbols still rise. A slice has an Assert exactly
+-- if its trace has one, so each kept statement is kept again, and slicing a slice changes nothing.
 use Prim.Native.Nat.{ℕ, suc, _+_, _≤_, _<_}
 use native.Mathlib.Omega.{arith}
 use mathlib.Core.Path.{_≡_, refl, sym, ap, _∙_, subst}
