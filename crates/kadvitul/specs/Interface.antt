@@ -42,9 +42,9 @@ judgeBytes trace valuation = judgedBytes valuation (readTrace trace)
 
 -- ---- the numbers that the calls give, one each
 
--- the archive's version, 1.0.0: 10,000 times the first number, 100 times the second, and the third
+-- the archive's version, 2.0.0: 10,000 times the first number, 100 times the second, and the third
 abbrev pub archiveVersion : ℕ
-archiveVersion = 10000
+archiveVersion = 20000
 
 pub data RunNumber : Type 0 where
   RunReply RunOffset RunVerdict RunPlace RunBackJumps : RunNumber

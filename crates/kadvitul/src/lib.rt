@@ -53,7 +53,7 @@ fn judge_bytes(trace: &[u8], valuation: &[u8]) -> trace::Answer
 pub extern "C" fn kadvitul_version() -> u32
     ensures { λ r. ⌜ VersionGives r ⌝ }
 {
-    10000
+    20000
 }
 
 #[no_mangle]

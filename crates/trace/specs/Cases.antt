@@ -250,8 +250,8 @@ empty version S = version ∷ 0x00 ∷ 0x06 ∷ S ∷ 0x00 ∷ 0x00 ∷ []
 -- a trace of either version has at most 64 inputs, and no other version is a trace's
 inputs : (judgeAnswer (empty 0x81 64) [] ≡ refusedAt 11 0) × (judgeAnswer (empty 0x81 65) [] ≡ refusedAt 4 0)
     × (judgeAnswer (empty 0x82 64) [] ≡ refusedAt 11 0) × (judgeAnswer (empty 0x82 65) [] ≡ refusedAt 4 0)
-unfolding judgeAnswer readTrace isTrace traceVersion oldVersion tellsBound readFile headerReply headSize headerInputs headerCount inputsLimit
-    inputRoom records
+unfolding judgeAnswer readTrace isTrace traceVersion oldVersion tellsBound readFile headerReply headSize headerInputs headerCount
+    inputsLimit inputRoom records
 inputs = (refl, refl, refl, refl)
 
 versions : (v : ℕ) → (v ≡ 130 → ⊥) → (v ≡ 129 → ⊥) → judgeAnswer (empty v 0) [] ≡ refusedAt 2 0
