@@ -99,7 +99,7 @@ module _ (told : Type 0) (b a : ℕ) where
   told-before zero r = r
   told-before (suc n) r = told-before n (r .0)
 
-is-unary : (b : ℕ) → popsOf b ≡ 1 → (u : Unary) × (operator b ≡ some (Un u))
+pub is-unary : (b : ℕ) → popsOf b ≡ 1 → (u : Unary) × (operator b ≡ some (Un u))
 unfolding popsOf
 is-unary b h = go (operator b) refl h
   where
@@ -111,7 +111,7 @@ is-unary b h = go (operator b) refl h
     go (some (Bin u)) f q = absurd (omega arith)
     go (some Ite) f q = absurd (omega arith)
 
-is-binary : (b : ℕ) → popsOf b ≡ 2 → (u : Binary) × (operator b ≡ some (Bin u))
+pub is-binary : (b : ℕ) → popsOf b ≡ 2 → (u : Binary) × (operator b ≡ some (Bin u))
 unfolding popsOf
 is-binary b h = go (operator b) refl h
   where
@@ -177,7 +177,7 @@ any-env ρ b w w′ d r h s = go (operator b) h s
 -- ---- a token that may stand at an offset
 
 module _ (F : File) (may : ℕ → Bool) (d : ℕ) (o : Option Token) where
-  standing : (q : goes (turned F may d o) ≡ true) (t : Token) → o ≡ some t → Fits may (depthLimit F) d t
+  pub standing : (q : goes (turned F may d o) ≡ true) (t : Token) → o ≡ some t → Fits may (depthLimit F) d t
   standing q t e = go (fits may (depthLimit F) d t) refl (subst (λ o. goes (turned F may d o) ≡ true) e q)
     where
       go : (x : Bool) → fits may (depthLimit F) d t ≡ x → goes (cond x (Next (after d t) (suc (operandCount F t))) Stop) ≡ true

@@ -1,9 +1,10 @@
 -- A trace with no Assert is not unsafe; so what stands behind the last Assert decides nothing.
-use Prim.Native.Nat.{ℕ}
+use Prim.Native.Nat.{ℕ, suc, _≤_}
 use native.Mathlib.Omega.{arith}
-use mathlib.Core.Path.{_≡_, refl}
+use mathlib.Core.Path.{_≡_, refl, ap}
 use mathlib.Core.Bool.{Bool, true, false, cond, _||_}
 use mathlib.Core.List.{List, [], _∷_}
+use lib.ListN.{length, take}
 use Rattle.expr.specs.Word.{truthy}
 use Rattle.expr.specs.Eval.{Env, update, value}
 use Rattle.file.specs.Outcome.{Kind, Assume, Assert, Bound, Outcome, Ended, Failed, unsafe, placeOf}
@@ -56,3 +57,25 @@ asserted-alike (Test k p e ∷ ts) σ = go (isAssert k || hasAssert ts) refl (as
         → Alike (judge (Test k p e ∷ ts) σ) (judge (cond b (Test k p e ∷ asserted ts) []) σ)
     go true q ih = alike-cond (truthy (value σ e)) (judge ts σ) (judge (asserted ts) σ) (Failed k p) ih
     go false q ih = no-assert-safe (Test k p e ∷ ts) σ q
+
+-- it is the front of the trace
+pub asserted-none : (ts : List Stmt) → hasAssert ts ≡ false → asserted ts ≡ []
+asserted-none [] h = refl
+asserted-none (t ∷ ts) h = rw h
+
+pub asserted-few : (ts : List Stmt) → length (asserted ts) ≤ length ts
+asserted-few [] = omega arith
+asserted-few (t ∷ ts) = go (hasAssert (t ∷ ts)) (asserted-few ts)
+  where
+    go : (b : Bool) → length (asserted ts) ≤ length ts → length (cond b (t ∷ asserted ts) []) ≤ suc (length ts)
+    go true l = omega arith
+    go false l = omega arith
+
+pub asserted-take : (ts : List Stmt) → take (length (asserted ts)) ts ≡ asserted ts
+asserted-take [] = refl
+asserted-take (t ∷ ts) = go (hasAssert (t ∷ ts)) (asserted-take ts)
+  where
+    go : (b : Bool) → take (length (asserted ts)) ts ≡ asserted ts
+        → take (length (cond b (t ∷ asserted ts) [])) (t ∷ ts) ≡ cond b (t ∷ asserted ts) []
+    go true q = ap {B = List Stmt} (λ r. t ∷ r) q
+    go false q = refl

@@ -7,6 +7,8 @@ pub mod Judge
 pub mod JudgeLaws
 pub mod Asserts
 pub mod AssertsLaws
+pub mod Past
+pub mod PastLaws
 pub mod Answer
 pub mod Cases
 -- What the code's values mean in these terms.
