@@ -99,6 +99,20 @@ module _ (told : Type 0) (b a : ℕ) where
   told-before zero r = r
   told-before (suc n) r = told-before n (r .0)
 
+-- of a match on the codes of all unary and binary operators the choice's is left
+pub only-ite : (b : ℕ) → b < 256 → 0 < popsOf b → Apart (Apart (Unit {0}) b 0x10 3) b 0x20 14 → b ≡ 0x30
+only-ite b h s r = go (ltb b 0x20) refl (ltb b 0x30) refl
+  where
+    unary : Type 0
+    unary = Apart (Unit {0}) b 0x10 3
+
+    go : (x : Bool) → ltb b 0x20 ≡ x → (y : Bool) → ltb b 0x30 ≡ y → b ≡ 0x30
+    go true e y f = let k = unary-code b h s (ltb-true b 0x20 e) in
+        absurd (omega (arith, k .1, above (Unit {0}) b 0x10 3 (told-before unary b 0x20 14 r) (k .0)))
+    go false e true f = let l = ltb-false b 0x20 e in let k = binary-code b h s l (ltb-true b 0x30 f) in
+        absurd (omega (arith, k .0, above unary b 0x20 14 r l))
+    go false e false f = ite-code b h s (ltb-false b 0x30 f) .0
+
 pub is-unary : (b : ℕ) → popsOf b ≡ 1 → (u : Unary) × (operator b ≡ some (Un u))
 unfolding popsOf
 is-unary b h = go (operator b) refl h

@@ -1,0 +1,1 @@
+-- What the code's values mean in these terms.
