@@ -26,7 +26,7 @@ loop-holds c =
 
 put-line-requires : tie.Need-put-line-requires Inv-loop μ-loop
 put-line-requires c κs = let v = c .before .before .loop .inv in let h = c .before .loop-test .taken in
-    (omega (arith, v .inside, v .few), listing-good v h, listing-room v h)
+    (omega (arith, v .passing .inside, v .passing .few), listing-good v h, listing-room v h)
 
 two-at-requires : tie.Need-two-at-requires Inv-loop μ-loop
 two-at-requires c κs =
@@ -46,7 +46,7 @@ add-at-2 c =
       c .two-at .ensures .0,
       listing-inside (c .before .before .before .before .before .before .loop .inv)
           (c .before .before .before .before .before .loop-test .taken),
-      c .before .before .before .before .before .before .loop .inv .few,
+      c .before .before .before .before .before .before .loop .inv .passing .few,
     )
 
 add-k : tie.Need-add-k Inv-loop μ-loop

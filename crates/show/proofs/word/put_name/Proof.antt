@@ -5,7 +5,8 @@ use Rattle.show.proofs.word.put_name.Tie as tie
 use mathlib.Core.Path.{refl}
 use Rattle.expr.specs.Word.{Not, Neg, Zero, Add, Sub, Mul, Udiv, Urem, And, Or, Xor, Shl, Lshr, Equal, Ult, Ule, Slt}
 use Rattle.expr.specs.Token.{Un, Bin, Ite}
-use Rattle.show.proofs.Names.{named, only-ite}
+use Rattle.expr.proofs.Steps.{only-ite}
+use Rattle.show.proofs.Names.{named}
 
 pub put-name-spec : {M : Type 1} → statement M
 put-name-spec =
