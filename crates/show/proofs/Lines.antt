@@ -2,27 +2,23 @@
 -- are left make all the lines. No line has more letters than six for each of its record's bytes.
 use Prim.Native.Nat.{ℕ, _+_, _*_, _^_, _≤_, _<_}
 use native.Mathlib.Omega.{arith}
-use mathlib.Core.Path.{_≡_, refl, sym, ap, ap₂, _∙_}
-use mathlib.Core.Bool.{Bool, true, false, cond}
+use mathlib.Core.Path.{_≡_, sym, ap, ap₂, _∙_}
+use mathlib.Core.Bool.{true}
 use mathlib.Core.List.{List, _++_}
 use lib.ListN.{length, drop, getD}
 use lib.Seq.{append-snoc}
-use lib.Dec.{eqb}
-use borrow.Author.Tests.{eq-eqb, ne-eqb}
 use Rattle.expr.specs.declared.File.the-variants.{Trace}
 use Rattle.expr.specs.Lists.{All}
 use Rattle.expr.specs.Number.{Byte, numberOf}
 use Rattle.expr.specs.Expr.{below, parse}
-use Rattle.expr.specs.Shown.{isWhole, tokensOf}
+use Rattle.expr.specs.Shown.{tokensOf}
 use Rattle.file.specs.File.{inputRoom, headerVersion, headerSize, headerInputs, headerCount, Good}
 use Rattle.file.specs.Shown.{isGood, isAccepted, listed}
 use Rattle.file.specs.FileLaws.{head-long}
 use Rattle.trace.specs.Trace.{readTrace}
-use Rattle.trace.specs.Shown.{testKind, symbolRoom, loose, held, exprStart, exprPart, exprOf}
-use Rattle.file.specs.RecordLaws.{rest-length}
+use Rattle.trace.specs.Shown.{testKind, symbolRoom, loose, held, exprPart, exprOf}
 use Rattle.trace.proofs.Held.{Held}
-use Rattle.trace.proofs.Moves.{expr-whole}
-use Rattle.trace.proofs.Passes.{known, Passing, pass-start, Passed, pass, pass-end}
+use Rattle.trace.proofs.Passes.{tokens-are, known, Passing, pass-start, Passed, pass, pass-end}
 use Rattle.write.specs.Splice.{Wrote}
 use Rattle.write.specs.SpliceLaws.{Ahead, ahead-start, ahead-step, ahead-end}
 use Rattle.write.specs.Ascii.{ascii}
@@ -33,31 +29,16 @@ use Rattle.show.specs.Shown.{lineIn}
 -- ---- one record
 
 module _ {s : List ℕ} {at : ℕ} (h : Held symbolRoom loose s at) {e : List ℕ} (q : e ≡ exprPart s at) where
-  pub expr-is-whole : isWhole (parse Trace (below symbolRoom) e) ≡ true
-  expr-is-whole = ap isWhole (expr-whole h symbolRoom refl q)
-
-  tokens-are : tokensOf (parse Trace (below symbolRoom) e) ≡ exprOf (h .statement)
-  tokens-are = ap tokensOf (expr-whole h symbolRoom refl q)
-
-  expr-length : exprStart (getD s (at + 2) 0) + length e ≡ 2 + numberOf 2 (drop at s)
-  expr-length = omega (arith, ap length q, rest-length s at (exprStart (getD s (at + 2) 0)) (h .whole) (h .starts))
-
   module _ (k : getD s (at + 2) 0 ≡ 1) where
-    pub assign-length : 7 + length e ≡ 2 + numberOf 2 (drop at s)
-    assign-length = let z : exprStart (getD s (at + 2) 0) ≡ 7 = rw (eq-eqb (getD s (at + 2) 0) 1 k) in omega (arith, expr-length)
-
     pub assign-line : (p y : ℕ) → p ≡ numberOf 2 (drop (at + 3) s) → y ≡ numberOf 2 (drop (at + 5) s)
         → decimal p ++ ascii " assign s" ++ decimal y ++ exprText (tokensOf (parse Trace (below symbolRoom) e)) ++ ascii "\n"
         ≡ lineIn (held (drop at s))
     assign-line p y a b =
-        ap (λ t. decimal p ++ ascii " assign s" ++ decimal y ++ exprText t ++ ascii "\n") tokens-are
+        ap (λ t. decimal p ++ ascii " assign s" ++ decimal y ++ exprText t ++ ascii "\n") (tokens-are h q)
         ∙ ap₂ (λ p y. decimal p ++ ascii " assign s" ++ decimal y ++ exprText (exprOf (h .statement)) ++ ascii "\n") a b
         ∙ sym (ap lineIn (h .is ∙ ap Good (h .assigns k .0)))
 
   module _ (k : getD s (at + 2) 0 ≡ 1 → ⊥) where
-    pub test-length : 5 + length e ≡ 2 + numberOf 2 (drop at s)
-    test-length = let z : exprStart (getD s (at + 2) 0) ≡ 5 = rw (ne-eqb (getD s (at + 2) 0) 1 k) in omega (arith, expr-length)
-
     pub test-line : (p : ℕ) → p ≡ numberOf 2 (drop (at + 3) s)
         → decimal p ++ (ascii " " ++ ascii (kindName (testKind (getD s (at + 2) 0)))) ++ exprText
         (tokensOf (parse Trace (below symbolRoom) e))
@@ -65,16 +46,8 @@ module _ {s : List ℕ} {at : ℕ} (h : Held symbolRoom loose s at) {e : List �
     test-line p a =
         let n = ascii (kindName (testKind (getD s (at + 2) 0))) in
         ap (λ t. t ++ exprText (tokensOf (parse Trace (below symbolRoom) e)) ++ ascii "\n") (sym (append-snoc (decimal p) 32 n))
-        ∙ ap₂ (λ p t. decimal p ++ ascii " " ++ n ++ exprText t ++ ascii "\n") a tokens-are
+        ∙ ap₂ (λ p t. decimal p ++ ascii " " ++ n ++ exprText t ++ ascii "\n") a (tokens-are h q)
         ∙ sym (ap lineIn (h .is ∙ ap Good (h .tests k .0)))
-
-  -- of any kind
-  pub five-bytes : 5 ≤ 2 + numberOf 2 (drop at s)
-  five-bytes = go (eqb (getD s (at + 2) 0) 1) expr-length
-    where
-      go : (x : Bool) → cond x 7 5 + length e ≡ 2 + numberOf 2 (drop at s) → 5 ≤ 2 + numberOf 2 (drop at s)
-      go true l = omega arith
-      go false l = omega arith
 
 -- ---- the loop
 

@@ -1,23 +1,55 @@
--- Any pass over the statements of an accepted trace: what its header says, and, at the offset of the k-th record, that the statements from
--- the k-th on are read from there. Other crates' loops use it.
+-- Any pass over the statements of an accepted trace: a record's expression, what the header says, and, at the offset of the k-th record,
+-- that the statements from the k-th on are read from there. Other crates' loops use it.
 use Prim.Native.Nat.{ℕ, suc, _+_, _-_, _≤_, _<_}
 use native.Mathlib.Omega.{arith}
 use mathlib.Core.Path.{_≡_, refl, sym, ap, _∙_, subst}
-use mathlib.Core.Bool.{true}
+use mathlib.Core.Bool.{Bool, true, false, cond}
 use mathlib.Core.List.{List, [], _∷_}
-use lib.ListN.{length, drop}
-use borrow.Author.Tests.{lt-ltb, ltb-true}
+use lib.ListN.{length, drop, getD}
+use lib.Dec.{eqb}
+use borrow.Author.Tests.{eq-eqb, ne-eqb, lt-ltb, ltb-true}
+use Rattle.expr.specs.declared.File.the-variants.{Trace}
 use Rattle.expr.specs.Lists.{All, drop-next}
 use Rattle.expr.specs.Number.{Byte, numberOf}
-use Rattle.file.specs.File.{Head, inputRoom, headerVersion, headerSize, headerInputs, headerCount, afterHeader, headerReply, Good, frame, Read}
-use Rattle.file.specs.File.{Input, Accepted, Refused}
+use Rattle.expr.specs.Expr.{below, parse}
+use Rattle.expr.specs.Shown.{isWhole, tokensOf}
+use Rattle.file.specs.File.{Head, inputRoom, headerVersion, headerSize, headerInputs, headerCount, afterHeader, headerReply, Good}
+use Rattle.file.specs.File.{frame, Read, Input, Accepted, Refused}
 use Rattle.file.specs.Shown.{isGood, isAccepted, listed}
 use Rattle.file.specs.FileLaws.{inputs-room, header-is, file-is, framed, record-good, Next, next-record, records-chain}
 use Rattle.file.specs.ReadingLaws.{short}
+use Rattle.file.specs.RecordLaws.{rest-length}
 use Rattle.trace.specs.Trace.{Stmt, Seen, atFirst, see, stmt, stmtsFrom, stmts, isTrace, readTrace}
 use Rattle.trace.specs.TraceLaws.{symbol-room, Wider, record-wider, wider-after}
-use Rattle.trace.specs.Shown.{symbolRoom, loose, held}
+use Rattle.trace.specs.Shown.{symbolRoom, loose, held, exprStart, exprPart, exprOf}
 use Rattle.trace.proofs.Held.{Held, held-at}
+use Rattle.trace.proofs.Moves.{expr-whole}
+
+-- ---- the expression of a record
+
+module _ {s : List ℕ} {at : ℕ} (h : Held symbolRoom loose s at) {e : List ℕ} (q : e ≡ exprPart s at) where
+  pub expr-is-whole : isWhole (parse Trace (below symbolRoom) e) ≡ true
+  expr-is-whole = ap isWhole (expr-whole h symbolRoom refl q)
+
+  pub tokens-are : tokensOf (parse Trace (below symbolRoom) e) ≡ exprOf (h .statement)
+  tokens-are = ap tokensOf (expr-whole h symbolRoom refl q)
+
+  expr-length : exprStart (getD s (at + 2) 0) + length e ≡ 2 + numberOf 2 (drop at s)
+  expr-length = omega (arith, ap length q, rest-length s at (exprStart (getD s (at + 2) 0)) (h .whole) (h .starts))
+
+  pub assign-length : getD s (at + 2) 0 ≡ 1 → 7 + length e ≡ 2 + numberOf 2 (drop at s)
+  assign-length k = let z : exprStart (getD s (at + 2) 0) ≡ 7 = rw (eq-eqb (getD s (at + 2) 0) 1 k) in omega (arith, expr-length)
+
+  pub test-length : (getD s (at + 2) 0 ≡ 1 → ⊥) → 5 + length e ≡ 2 + numberOf 2 (drop at s)
+  test-length k = let z : exprStart (getD s (at + 2) 0) ≡ 5 = rw (ne-eqb (getD s (at + 2) 0) 1 k) in omega (arith, expr-length)
+
+  -- of any kind
+  pub five-bytes : 5 ≤ 2 + numberOf 2 (drop at s)
+  five-bytes = go (eqb (getD s (at + 2) 0) 1) expr-length
+    where
+      go : (x : Bool) → cond x 7 5 + length e ≡ 2 + numberOf 2 (drop at s) → 5 ≤ 2 + numberOf 2 (drop at s)
+      go true l = omega arith
+      go false l = omega arith
 
 -- ---- the header
 

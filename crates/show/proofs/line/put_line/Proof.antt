@@ -7,8 +7,9 @@ use borrow.Author.Needs.{needs}
 use Rattle.expr.specs.Number.{numberOf}
 use Rattle.trace.specs.Shown.{symbolRoom, loose}
 use Rattle.trace.proofs.Held.{Held, held-at}
+use Rattle.trace.proofs.Passes.{expr-is-whole, assign-length, test-length, five-bytes}
 use Rattle.write.specs.SpliceLaws.{_then_, wrote-as}
-use Rattle.show.proofs.Lines.{expr-is-whole, assign-length, assign-line, test-length, test-line, five-bytes}
+use Rattle.show.proofs.Lines.{assign-line, test-line}
 use Rattle.show.proofs.line.put_line.Statement.{statement}
 use Rattle.show.proofs.line.put_line.Tie as tie
 
