@@ -10,8 +10,8 @@ use lib.ListN.{length, drop}
 use lib.Dec.{eqb}
 use Rattle.expr.specs.declared.File.{File}
 use Rattle.expr.specs.Token.{Token, readToken}
-use Rattle.expr.specs.Expr.{depthLimit, below, after, Parsed, Whole, Breaks, also, parseFrom, parse}
-use Rattle.expr.specs.ExprLaws.{Fits, fits-is, end-at}
+use Rattle.expr.specs.Expr.{below, after, Parsed, Whole, Breaks, also, parseFrom, parse}
+use Rattle.expr.specs.ExprLaws.{end-at}
 use Rattle.expr.specs.Shown.{isWhole, tokensOf, sizeOf, Stands}
 use Rattle.expr.proofs.Turns.{Went, whole-goes, whole-went}
 
@@ -31,7 +31,6 @@ pub record Turned {F : File} {S : ℕ} {e : List ℕ} {i : ℕ} (v : Rest F S e 
   pub some-byte : 1 ≤ m
   pub token : Token
   pub is-read : readToken F (drop i e) ≡ some token
-  pub fit : Fits (below S) (depthLimit F) (v .depth) token
   pub then : Rest F S e (i + m)
   pub deep : then .depth ≡ after (v .depth) token
   pub split : tokens v ≡ token ∷ tokens then
@@ -59,7 +58,6 @@ module _ {F : File} {S : ℕ} {e : List ℕ} {i : ℕ} (v : Rest F S e i) where
               some-byte = omega (arith, k .size);
               token = t;
               is-read = k .is-read;
-              fit = fits-is (below S) (depthLimit F) (v .depth) t (k .fit);
               then = record { depth = d′; inside = omega (arith, k .inside); whole = w .0 };
               deep = k .deep;
               split = ap tokensOf same ∙ w .1;

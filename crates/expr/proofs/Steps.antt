@@ -113,7 +113,7 @@ only-ite b h s r = go (ltb b 0x20) refl (ltb b 0x30) refl
         absurd (omega (arith, k .0, above unary b 0x20 14 r l))
     go false e false f = ite-code b h s (ltb-false b 0x30 f) .0
 
-pub is-unary : (b : ℕ) → popsOf b ≡ 1 → (u : Unary) × (operator b ≡ some (Un u))
+is-unary : (b : ℕ) → popsOf b ≡ 1 → (u : Unary) × (operator b ≡ some (Un u))
 unfolding popsOf
 is-unary b h = go (operator b) refl h
   where

@@ -16,7 +16,7 @@ wrote-none o at = record { buffer = sym (splice-nil at o); next = sym (add-zero 
 
 -- ---- hexadecimal digits
 
-abbrev pub pair : ℕ → List ℕ
+abbrev pair : ℕ → List ℕ
 pair b = hexDigit (b / 16) ∷ hexDigit (b % 16) ∷ []
 
 -- two digits for each of four bytes

@@ -86,11 +86,11 @@ module _ (e : List ℕ) (i d : ℕ) (st : goes (turned Trace (below symbolRoom) 
 
 -- ---- the bindings, then x0, then a parenthesis for each
 
-abbrev pub openings : (d : ℕ) → List Token → List ℕ
+abbrev openings : (d : ℕ) → List Token → List ℕ
 openings d [] = []
 openings d (t ∷ e) = binding d (some t) ++ openings (after d t) e
 
-pub term-linear : (d : ℕ) (e : List Token) → openings d e ++ slotName 0 ++ replicate (length e) 41 ≡ termText (termFrom d e)
+term-linear : (d : ℕ) (e : List Token) → openings d e ++ slotName 0 ++ replicate (length e) 41 ≡ termText (termFrom d e)
 term-linear d [] = append-nil (slotName 0)
   where
     append-nil : (xs : List ℕ) → xs ++ [] ≡ xs

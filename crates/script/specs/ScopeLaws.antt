@@ -2,12 +2,12 @@
 -- environment that satisfies it is a solver's model.
 use Prim.Native.Nat.{ℕ, zero, suc, _+_, _-_, _≤_, _<_}
 use native.Mathlib.Omega.{arith}
-use mathlib.Core.Path.{_≡_, refl, sym, ap, ap₂, _∙_}
+use mathlib.Core.Path.{_≡_, refl, ap, ap₂, _∙_}
 use mathlib.Core.Bool.{Bool, true, false, cond, _&&_, _||_}
 use mathlib.Core.List.{List, [], _∷_, _++_}
-use lib.Dec.{eqb, leb, ltb}
-use borrow.Author.Tests.{eqb-true, eqb-false, eq-eqb, le-leb, ltb-true}
-use Rattle.expr.specs.Lists.{All, and-both, both-and, or-left, or-right, or-cases}
+use lib.Dec.{eqb, leb}
+use borrow.Author.Tests.{eqb-false, eq-eqb, le-leb, ltb-true}
+use Rattle.expr.specs.Lists.{and-both, both-and, or-left, or-right, or-cases}
 use Rattle.expr.specs.Word.{Unary, Not, Neg, Zero, Binary, Add, Sub, Mul, Udiv, Urem, And, Or, Xor, Shl, Lshr, Equal, Ult, Ule, Slt}
 use Rattle.expr.specs.Token.{Token, Const, Symbol, Un, Bin, Ite}
 use Rattle.expr.specs.Expr.{pops, after, readsOnly}

@@ -7,9 +7,9 @@ use mathlib.Core.Bool.{Bool, true, false, cond, _&&_, _||_}
 use lib.Dec.{eqb, ltb, leb}
 use lib.Pow.{pow-add}
 use borrow.Author.Tests.{eqb-true, eqb-false, ltb-true, ltb-false, lt-ltb, le-ltb, le-leb, lt-leb}
-use Rattle.expr.specs.Word.{Word, Sub, Urem, Shl, Lshr, Ule, Slt, test, remainderByZero, binary}
+use Rattle.expr.specs.Word.{Word, Sub, Urem, Shl, Lshr, Slt, test, remainderByZero, binary}
 use Rattle.expr.specs.WordLaws.{raised, same-ltb, slt-raised}
-use Rattle.script.specs.Smt.{bvsub, bvurem, bvshl, bvlshr, bvule, bvslt, bvBinary, vector, sign, related}
+use Rattle.script.specs.Smt.{bvsub, bvurem, bvshl, bvlshr, bvule, bvslt, bvBinary, sign, related}
 
 module _ (w a b : ℕ) where
   pub sub-is : bvBinary w bvsub a b ≡ binary w Sub a b

@@ -8,14 +8,12 @@ use line::Part;
 use trace::read;
 ghost use mathlib.Core.Path.{_≡_};
 ghost use mathlib.Core.Bool.{true};
-ghost use mathlib.Core.List.{_++_};
-ghost use Prim.Native.Nat.{_+_, _*_, _≤_};
+ghost use Prim.Native.Nat.{_+_, _≤_};
 ghost use lib.ListN.{length};
 ghost use Rattle.file.specs.File.{headerCount};
 ghost use Rattle.file.specs.Shown.{isAccepted, listed};
 ghost use Rattle.trace.specs.Trace.{readTrace};
 ghost use Rattle.write.specs.Splice.{Wrote};
-ghost use Rattle.write.specs.Ascii.{ascii};
 ghost use Rattle.script.specs.Shown.{claimText, definitionsText, scriptIn};
 ghost use Rattle.script.specs.Answer.{refusal, numbers, ScriptWritten};
 

@@ -8,7 +8,6 @@ use expr::token;
 use expr::token::Read;
 ghost use mathlib.Core.Path.{_≡_};
 ghost use mathlib.Core.Bool.{true};
-ghost use mathlib.Core.List.{_++_};
 ghost use Prim.Native.Nat.{_+_, _-_, _*_, _≤_, _<_, _^_};
 ghost use lib.ListN.{length, drop, replicate};
 ghost use Rattle.expr.specs.declared.File.the-variants.{Trace};
@@ -17,9 +16,8 @@ ghost use Rattle.expr.specs.Expr.{below, parse};
 ghost use Rattle.expr.specs.Shown.{popped, turned, goes, isWhole, tokensOf, sizeOf};
 ghost use Rattle.trace.specs.Shown.{symbolRoom};
 ghost use Rattle.write.specs.Splice.{Wrote};
-ghost use Rattle.write.specs.Ascii.{ascii};
 ghost use Rattle.script.specs.Script.{exprTerm};
-ghost use Rattle.script.specs.ScriptText.{slotName, termText};
+ghost use Rattle.script.specs.ScriptText.{termText};
 ghost use Rattle.script.specs.Shown.{popsRead, Writable, readText, binding};
 
 // How many words a token pops.
