@@ -103,15 +103,15 @@ module _ (b : List ℕ) (K : ℕ) (head : Head) (is : List Instr) (t : List ℕ)
   inputs : headerInputs b ≡ S
   inputs = table-inputs b head is (w .accepted)
 
-  read-back : readTrace t ≡ Accepted (traceHead S) ts
+  pub read-back : readTrace t ≡ Accepted (traceHead S) ts
   read-back = trace-read b K head is t o w
 
-  slice-back : readTrace cut ≡ Accepted (traceHead S) (slice ts)
+  pub slice-back : readTrace cut ≡ Accepted (traceHead S) (slice ts)
   slice-back =
       slice-read (traceHead S) ts (trace-known S) (omega (arith, table .inputs, room-written)) (w .count) (w .total)
       (unwind-ok S is K (table .ok) (table .inputs) (w .count))
 
-  slice-answer : (room : ℕ) → (sliceAnswer t room) .reply ≡ 0 → sliceAnswer t room ≡ Slicing.sliceOf (traceHead S) (slice ts)
+  pub slice-answer : (room : ℕ) → (sliceAnswer t room) .reply ≡ 0 → sliceAnswer t room ≡ Slicing.sliceOf (traceHead S) (slice ts)
   unfolding sliceAnswer
   slice-answer room h = go (leb (length (encodeTrace (traceHead S) (slice ts))) room) (ap (Slicing.answered room) read-back)
     where
@@ -148,7 +148,7 @@ module _ (b : List ℕ) (K : ℕ) (head : Head) (is : List Instr) (t : List ℕ)
       ∙ ap (λ x. cond x (cond (eqb (length v) S) (Running.answerOf (run is K v)) (Running.refusal 11 0)) (Running.refusal 8 0))
       (le-leb K 255 (w .bound))
 
-  run-done : (v : List ℕ) → length v ≡ S → runAnswer b K v ≡ Running.answerOf (run is K v)
+  pub run-done : (v : List ℕ) → length v ≡ S → runAnswer b K v ≡ Running.answerOf (run is K v)
   run-done v h = run-tested v ∙ ap (λ x. cond x (Running.answerOf (run is K v)) (Running.refusal 11 0)) (eq-eqb (length v) S h)
 
   -- of any trace that is read with the table's inputs
@@ -199,10 +199,10 @@ module _ (b : List ℕ) (K : ℕ) (head : Head) (is : List Instr) (t : List ℕ)
   traced : (v : List ℕ) → judge ts (envOf v) ≡ (run is K v) .outcome
   traced v = judge-unwind-cut S is K v (table .ok)
 
-  run-alike : (v : List ℕ) → Outcomes.Alike ((run is K v) .outcome) (judge ts (envOf v))
+  pub run-alike : (v : List ℕ) → Outcomes.Alike ((run is K v) .outcome) (judge ts (envOf v))
   run-alike v = (ap unsafe (sym (traced v)), ap placeOf (sym (traced v)))
 
-  slice-as-run : (v : List ℕ) → Outcomes.Alike ((run is K v) .outcome) (judge (slice ts) (envOf v))
+  pub slice-as-run : (v : List ℕ) → Outcomes.Alike ((run is K v) .outcome) (judge (slice ts) (envOf v))
   slice-as-run v =
       let ran = run-alike v in
       let kept = slice-alike ts (envOf v) (envOf v) (λ x r. refl) in

@@ -10,5 +10,7 @@ pub mod RefusalsProof
 -- Demand 3.
 pub mod Demand3Proof
 pub mod Demand3Cases
+-- Request 2026-02.
+pub mod SolverProof
 -- Calls from C that write one after the other into one buffer.
 pub mod Again

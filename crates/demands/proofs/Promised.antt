@@ -3,6 +3,7 @@ use Rattle.demands.specs.Promised.{Promised}
 use Rattle.demands.proofs.RepliesProof.{run-demand1, judge-demand1, write-trace-demand1, slice-trace-demand1}
 use Rattle.demands.proofs.RefusalsProof as Rest
 use Rattle.demands.proofs.Demand3Proof as Third
+use Rattle.demands.proofs.SolverProof as Asked
 
 pub promised : Promised
 promised = record {
@@ -17,4 +18,5 @@ promised = record {
   trace-gives-rest = Rest.trace-gives-rest;
   slice-gives-rest = Rest.slice-gives-rest;
   demand3 = Third.demand3;
+  solver = Asked.solver;
 }

@@ -13,6 +13,8 @@ use Rattle.unwind.specs.declared.Answer as Traced
 use Rattle.unwind.specs.Answer.{TraceWritten}
 use Rattle.slice.specs.declared.Answer as Sliced
 use Rattle.slice.specs.Answer.{SliceWritten}
+use Rattle.script.specs.declared.Answer as Exported
+use Rattle.script.specs.Answer.{ScriptWritten}
 use Rattle.show.specs.declared.Answer as Shown
 use Rattle.show.specs.Answer.{SliceShown}
 use Rattle.kadvitul.specs.Interface.{VersionGives, RunNumber, RunGives, JudgeNumber, JudgeGives, TraceNumber, TraceGives, SliceNumber}
@@ -53,6 +55,11 @@ write-trace-determined table K out o o′ r r′ h k = (h .answer ∙ sym (k .an
 pub slice-trace-determined : (trace out o o′ : List ℕ) (r r′ : Sliced.Answer)
     → SliceWritten trace out o r → SliceWritten trace out o′ r′ → (r ≡ r′) × (o ≡ o′)
 slice-trace-determined trace out o o′ r r′ h k = (h .answer ∙ sym (k .answer), h .buffer ∙ sym (k .buffer))
+
+-- `write_script`: the answer, and what the buffer `out` holds afterwards
+pub write-script-determined : (trace out o o′ : List ℕ) (r r′ : Exported.Answer)
+    → ScriptWritten trace out o r → ScriptWritten trace out o′ r′ → (r ≡ r′) × (o ≡ o′)
+write-script-determined trace out o o′ r r′ h k = (h .answer ∙ sym (k .answer), h .buffer ∙ sym (k .buffer))
 
 -- `show_slice`: the answer, and what the buffer `out` holds afterwards
 pub show-slice-determined : (input out o o′ : List ℕ) (r r′ : Shown.Answer)

@@ -5,6 +5,8 @@ pub mod Valuation
 pub mod Replies
 pub mod Refusals
 pub mod Demand3
+-- Request 2026-02: what a solver's answer says of the rule.
+pub mod Solver
 -- Demand 2: each public call's statement determines its answer and its buffer; document 01's marked cases, as one collection.
 pub mod Determined
 pub mod Marked

@@ -16,6 +16,7 @@ use Rattle.demands.specs.Valuation.{Handed, ranWith, judgedWith}
 use Rattle.demands.specs.Replies.{Run, Judge, WriteTrace, SliceTrace, Demand1}
 use Rattle.demands.specs.Refusals.{RunRest, JudgeRest, TraceRest, SliceRest, TraceGivesRest, SliceGivesRest}
 use Rattle.demands.specs.Demand3.{Demand3}
+use Rattle.demands.specs.Solver.{Solver}
 
 pub record Promised : Type 0 where
   -- demand 1: a numbered refusal exactly when its row is the first that holds
@@ -38,3 +39,5 @@ pub record Promised : Type 0 where
       → SliceGivesRest (sliceAnswer t (length out)) out out′
   -- demand 3, for every table and bound for which the trace is written; demand 2 is the calls' contracts, `Determined` and `Marked`
   pub demand3 : (b : List ℕ) (K room : ℕ) → All Byte b → (traceAnswer b K room) .reply ≡ 0 → Demand3 b K ((traceAnswer b K room) .bytes)
+  -- request 2026-02: what a solver answers to the script of that trace, or of its slice, is whether the rule fails within the bound
+  pub solver : (b : List ℕ) (K room : ℕ) → All Byte b → (traceAnswer b K room) .reply ≡ 0 → Solver b K ((traceAnswer b K room) .bytes)

@@ -1,5 +1,5 @@
 -- The same over bytes and answers: what the public calls are proved to give, `judgeAnswer` of `judge` and `scriptAnswer` of `write_script`.
-use Prim.Native.Nat.{ℕ}
+use Prim.Native.Nat.{ℕ, _≤_}
 use native.Mathlib.Omega.{arith}
 use mathlib.Core.Path.{_≡_, refl, sym, ap, _∙_}
 use mathlib.Core.Bool.{Bool, true, false, cond}
@@ -7,7 +7,7 @@ use mathlib.Core.Logic.{_↔_}
 use mathlib.Core.List.{List}
 use lib.ListN.{length}
 use lib.Dec.{leb}
-use borrow.Author.Tests.{eq-eqb}
+use borrow.Author.Tests.{eq-eqb, le-leb}
 use Rattle.expr.specs.Lists.{All}
 use Rattle.expr.specs.Number.{Byte}
 use Rattle.expr.specs.Word.{Word}
@@ -44,6 +44,13 @@ module _ (s : List ℕ) (head : Head) (ts : List Stmt) (is : readTrace s ≡ Acc
           → (cond b (exported (textOf (scriptOf S ts))) (refusal 10 0)) .bytes ≡ textOf (scriptOf S ts)
       go true z = refl
       go false z = absurd (omega arith)
+
+  -- given room, nothing is refused
+  pub script-done : (room : ℕ) → length (textOf (scriptOf S ts)) ≤ room → (scriptAnswer s room) .reply ≡ 0
+  unfolding scriptAnswer scriptText
+  script-done room h =
+      ap (λ i. (answered room i) .reply) is
+      ∙ ap (λ b. (cond b (exported (textOf (scriptOf S ts))) (refusal 10 0)) .reply) (le-leb (length (textOf (scriptOf S ts))) room h)
 
   judged : (v : List ℕ) → length v ≡ S → (judgeAnswer s v) .verdict ≡ (answerOf (judge ts (envOf v))) .verdict
   unfolding judgeAnswer
