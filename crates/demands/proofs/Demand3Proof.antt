@@ -11,7 +11,7 @@
 --    says nothing. So two valuations that agree on the mask's inputs agree on all that the slice reads, and it is unsafe under both or
 --    under neither, at one place; by step 3 so are the trace and the run.
 -- 5. A valuation of bytes is one of words (`ValuationLaws`), so all of this holds of the calls from C.
-use Prim.Native.Nat.{ℕ, suc, _+_, _*_, _≤_}
+use Prim.Native.Nat.{ℕ, suc, _+_, _*_}
 use native.Mathlib.Omega.{arith}
 use native.Mathlib.Numerals.{add-one}
 use native.Mathlib.Decide.{decLt}
@@ -32,7 +32,7 @@ use Rattle.file.specs.File.{Head, headerInputs, headerCount, Accepted}
 use Rattle.file.specs.EncodeLaws.{encode-length}
 use Rattle.file.specs.Shown.{listed}
 use Rattle.table.specs.declared.Answer as Ran
-use Rattle.table.specs.Table.{Instr, readTable}
+use Rattle.table.specs.Table.{Instr}
 use Rattle.table.specs.TableLaws.{IsTable, table-ok, table-inputs}
 use Rattle.table.specs.Run.{run}
 use Rattle.table.specs.RunLaws.{run-placed}

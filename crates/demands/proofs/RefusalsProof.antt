@@ -1,6 +1,5 @@
 -- A refusal's other numbers are 0 and its buffer is as it was: each answer goes by its tests, and a refusal is made of zeros.
 use Prim.Native.Nat.{ℕ}
-use native.Mathlib.Omega.{arith}
 use mathlib.Core.Path.{_≡_, refl, ap, _∙_, subst⁻¹}
 use mathlib.Core.Bool.{Bool, true, false, cond, _&&_}
 use mathlib.Core.List.{List, []}

@@ -1,13 +1,10 @@
 -- A solver's answer says whether the rule can fail: the script of a trace has a solution exactly if some valuation makes the trace unsafe
 -- (`sat-iff`), and a written trace and its slice are unsafe exactly where the run is (`run-alike`, `slice-as-run`).
 use Prim.Native.Nat.{ℕ, _≤_}
-use native.Mathlib.Omega.{arith}
-use mathlib.Core.Path.{_≡_, refl, sym, ap, ap₂, _∙_, subst}
-use mathlib.Core.Bool.{Bool, true, false, cond}
+use mathlib.Core.Path.{_≡_, sym, ap, ap₂, _∙_, subst}
+use mathlib.Core.Bool.{true}
 use mathlib.Core.List.{List}
 use lib.ListN.{length}
-use lib.Dec.{leb}
-use borrow.Author.Tests.{le-leb}
 use Rattle.expr.specs.Lists.{All}
 use Rattle.expr.specs.Number.{Byte}
 use Rattle.expr.specs.Word.{Word}
@@ -19,26 +16,23 @@ use Rattle.file.specs.Shown.{listed}
 use Rattle.table.specs.Table.{Instr}
 use Rattle.table.specs.TableLaws.{table-ok, table-inputs}
 use Rattle.table.specs.Run.{run}
-use Rattle.table.specs.Answer.{runAnswer}
 use Rattle.trace.specs.Trace.{Stmt, atFirst, readTrace, traceHead, encodeTrace}
 use Rattle.trace.specs.TraceLaws.{trace-inputs}
 use Rattle.trace.specs.WellFormed.{StmtsOk}
 use Rattle.trace.specs.Judge.{judge}
-use Rattle.trace.specs.PastLaws.{Words}
+use Rattle.trace.specs.Past.{OfWords}
 use Rattle.unwind.specs.Unwind.{unwind}
 use Rattle.unwind.specs.UnwindLaws.{unwind-ok}
 use Rattle.unwind.specs.Answer.{traceAnswer}
 use Rattle.unwind.specs.AnswerLaws.{IsTrace, trace-written}
 use Rattle.slice.specs.Slice.{slice}
 use Rattle.slice.specs.SliceLaws.{slice-ok}
-use Rattle.slice.specs.Answer.{sliceAnswer}
 use Rattle.script.specs.Smt.{satisfies}
-use Rattle.script.specs.Script.{scriptOf}
-use Rattle.script.specs.ScriptLaws.{inputsOf, inputs-length, inputs-words, model-violates, sat-iff}
+use Rattle.script.specs.Script.{scriptOf, inputsOf}
+use Rattle.script.specs.ScriptLaws.{inputs-length, inputs-words, model-violates, sat-iff}
 use Rattle.script.specs.ScriptText.{textOf}
 use Rattle.script.specs.BytesLaws.{script-done, script-bytes}
-use Rattle.script.specs.Answer.{scriptAnswer}
-use Rattle.demands.specs.Solver.{Fails, scriptIn, Asks, Solver}
+use Rattle.demands.specs.Solver.{Fails, askedBy, Asks, Solver}
 use Rattle.demands.proofs.Demand3Proof.{read-back, slice-back, slice-answer, run-done, run-alike, slice-as-run}
 
 module _ (b : List ℕ) (K : ℕ) (head : Head) (is : List Instr) (t : List ℕ) (o : All Byte b) (w : IsTrace b K head is t) where
@@ -74,15 +68,15 @@ module _ (b : List ℕ) (K : ℕ) (head : Head) (is : List Instr) (t : List ℕ)
     solution = λ τ ws q. subst (λ n. Fails b K (inputsOf n τ)) (sym inputs) (found τ ws q);
   }
     where
-      is-script : scriptIn s ≡ scriptOf S us
+      is-script : askedBy s ≡ scriptOf S us
       is-script = ap₂ scriptOf (trace-inputs s (traceHead S) us a) (ap listed a)
 
-      found : (τ : Env) → Words τ → satisfies τ (scriptIn s) ≡ true → Fails b K (inputsOf S τ)
+      found : (τ : Env) → OfWords τ → satisfies τ (askedBy s) ≡ true → Fails b K (inputsOf S τ)
       found τ ws q =
           fails (inputsOf S τ) (inputs-length τ 0 S) (inputs-words τ 0 S ws)
           (e (inputsOf S τ) ∙ model-violates (traceHead S) us k τ ws (subst (λ c. satisfies τ c ≡ true) is-script q))
 
-      solved : (v : List ℕ) → Fails b K v → (τ : Env) × Words τ × (satisfies τ (scriptIn s) ≡ true)
+      solved : (v : List ℕ) → Fails b K v → (τ : Env) × OfWords τ × (satisfies τ (askedBy s) ≡ true)
       solved v f =
           let m = sat-iff (traceHead S) us k .1 (v, f .inputs ∙ inputs, f .words, sym (e v) ∙ failed v f) in
           (m .0, m .1, subst (λ c. satisfies (m .0) c ≡ true) (sym is-script) (m .2))

@@ -20,7 +20,7 @@ use lib.Dec.{eqb}
 use lib.ListN.{length}
 use Rattle.expr.specs.Word.{bit}
 use Rattle.file.specs.Outcome.{Assume}
-use Rattle.file.specs.File.{Head, headerInputs, headerCount}
+use Rattle.file.specs.File.{headerInputs, headerCount}
 use Rattle.file.specs.Shown.{listed}
 use Rattle.table.specs.declared.Answer as Ran
 use Rattle.table.specs.Table.{readTable}

@@ -12,11 +12,10 @@ use Rattle.file.specs.File.{headerInputs}
 use Rattle.file.specs.Shown.{listed}
 use Rattle.table.specs.Answer.{runAnswer}
 use Rattle.trace.specs.Trace.{readTrace}
-use Rattle.trace.specs.PastLaws.{Words}
+use Rattle.trace.specs.Past.{OfWords}
 use Rattle.slice.specs.Answer.{sliceAnswer}
 use Rattle.script.specs.Smt.{Script, satisfies}
-use Rattle.script.specs.Script.{scriptOf}
-use Rattle.script.specs.ScriptLaws.{inputsOf}
+use Rattle.script.specs.Script.{scriptOf, inputsOf}
 use Rattle.script.specs.ScriptText.{textOf}
 use Rattle.script.specs.Answer.{scriptAnswer}
 
@@ -27,18 +26,18 @@ pub record Fails (b : List ℕ) (K : ℕ) (v : List ℕ) : Type 0 where
   pub unsafe : (runAnswer b K v) .verdict ≡ 1
 
 -- the script of the trace's bytes s
-abbrev pub scriptIn : (s : List ℕ) → Script
-scriptIn s = scriptOf (headerInputs s) (listed (readTrace s))
+abbrev pub askedBy : (s : List ℕ) → Script
+askedBy s = scriptOf (headerInputs s) (listed (readTrace s))
 
 -- a solver is asked whether the table b can fail under the bound K, by the script of the trace s
 pub record Asks (b : List ℕ) (K : ℕ) (s : List ℕ) : Type 0 where
   -- writing it refuses nothing, given room, and what is written is its text
-  pub written : (room : ℕ) → length (textOf (scriptIn s)) ≤ room → (scriptAnswer s room) .reply ≡ 0
-  pub text : (room : ℕ) → (scriptAnswer s room) .reply ≡ 0 → (scriptAnswer s room) .bytes ≡ textOf (scriptIn s)
+  pub written : (room : ℕ) → length (textOf (askedBy s)) ≤ room → (scriptAnswer s room) .reply ≡ 0
+  pub text : (room : ℕ) → (scriptAnswer s room) .reply ≡ 0 → (scriptAnswer s room) .bytes ≡ textOf (askedBy s)
   -- it has a solution exactly if the table fails for some valuation
-  pub satisfiable : ((τ : Env) × Words τ × (satisfies τ (scriptIn s) ≡ true)) ↔ ((v : List ℕ) × Fails b K v)
+  pub satisfiable : ((τ : Env) × OfWords τ × (satisfies τ (askedBy s) ≡ true)) ↔ ((v : List ℕ) × Fails b K v)
   -- and the inputs of every solution are such a valuation
-  pub solution : (τ : Env) → Words τ → satisfies τ (scriptIn s) ≡ true → Fails b K (inputsOf (headerInputs b) τ)
+  pub solution : (τ : Env) → OfWords τ → satisfies τ (askedBy s) ≡ true → Fails b K (inputsOf (headerInputs b) τ)
 
 -- t is the trace that is written of the table b under bound K
 pub record Solver (b : List ℕ) (K : ℕ) (t : List ℕ) : Type 0 where

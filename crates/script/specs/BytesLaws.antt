@@ -19,11 +19,10 @@ use Rattle.trace.specs.WellFormed.{trace-ok}
 use Rattle.trace.specs.Judge.{judge}
 use Rattle.trace.specs.Answer as Judging
 use Rattle.trace.specs.Answer.{judgeAnswer, answerOf}
-use Rattle.trace.specs.Past.{valuesPast}
-use Rattle.trace.specs.PastLaws.{Words}
+use Rattle.trace.specs.Past.{valuesPast, OfWords}
 use Rattle.script.specs.Smt.{satisfies}
-use Rattle.script.specs.Script.{scriptOf}
-use Rattle.script.specs.ScriptLaws.{inputsOf, inputs-length, inputs-words, export-violated, model-violates, sat-iff}
+use Rattle.script.specs.Script.{scriptOf, inputsOf}
+use Rattle.script.specs.ScriptLaws.{inputs-length, inputs-words, export-violated, model-violates, sat-iff}
 use Rattle.script.specs.Scope.{WellScoped}
 use Rattle.script.specs.ScopeLaws.{script-scoped}
 use Rattle.script.specs.ScriptText.{textOf, scriptText}
@@ -72,7 +71,7 @@ module _ (s : List ℕ) (head : Head) (ts : List Stmt) (is : readTrace s ≡ Acc
         (λ q. judged v l ∙ u .1 (sym e ∙ q), λ q. e ∙ u .0 (sym (judged v l) ∙ q))
 
     -- the inputs of a solver's model are a valuation, and judged again they are unsafe
-    pub model-judged-unsafe : (τ : Env) → Words τ → satisfies τ (scriptOf S ts) ≡ true
+    pub model-judged-unsafe : (τ : Env) → OfWords τ → satisfies τ (scriptOf S ts) ≡ true
         → (length (inputsOf S τ) ≡ S) × All Word (inputsOf S τ) × ((judgeAnswer s (inputsOf S τ)) .verdict ≡ 1)
     model-judged-unsafe τ w q =
         let l = inputs-length τ 0 S in
@@ -80,7 +79,7 @@ module _ (s : List ℕ) (head : Head) (ts : List Stmt) (is : readTrace s ≡ Acc
         (l, inputs-words τ 0 S w, judged (inputsOf S τ) l ∙ u .1 (model-violates head ts (trace-ok s head ts o is .ok) τ w q))
 
     -- a solver answers `sat` exactly if some valuation is judged unsafe
-    pub script-sat : ((τ : Env) × Words τ × (satisfies τ (scriptOf S ts) ≡ true))
+    pub script-sat : ((τ : Env) × OfWords τ × (satisfies τ (scriptOf S ts) ≡ true))
         ↔ ((v : List ℕ) × (length v ≡ S) × All Word v × ((judgeAnswer s v) .verdict ≡ 1))
     script-sat = (
       λ m. let j = model-judged-unsafe (m .0) (m .1) (m .2) in (inputsOf S (m .0), j .0, j .1, j .2),

@@ -1,10 +1,11 @@
 -- Request 2026-02: the script of a trace. The stack's words are variables, x0 the deepest: a token binds the one that it pushes, so its
 -- term depends only on the token and the depth, and each expression is written once.
 use Prim.Native.Nat.{ℕ, zero, suc, _+_, _-_}
-use mathlib.Core.List.{List, [], _∷_, _++_}
+use mathlib.Core.List.{List, [], _∷_, _++_, map}
 use Rattle.expr.specs.Word.{Unary, Not, Neg, Zero, Binary, Add, Sub, Mul, Udiv, Urem, And, Or, Xor, Shl, Lshr, Equal, Ult, Ule, Slt}
 use Rattle.expr.specs.Token.{Token, Const, Symbol, Un, Bin, Ite}
 use Rattle.expr.specs.Expr.{pops, after}
+use Rattle.expr.specs.Eval.{Env}
 use Rattle.file.specs.Outcome.{Kind, Assume, Assert, Bound}
 use Rattle.trace.specs.Trace.{Stmt, Assign, Test}
 use Rattle.trace.specs.Asserts.{asserted}
@@ -89,3 +90,7 @@ violation (Test k p e ∷ ts) = tested k e (violation ts)
 -- the inputs and then the assigned symbols, in their order; nothing is said of the tests behind the last Assert
 unfoldable pub scriptOf : (S : ℕ) → List Stmt → Script
 scriptOf S ts = record { symbols = numbersFrom 0 S ++ assigned ts; equations = equationsOf ts; claim = violation (asserted ts) }
+
+-- the inputs of a solution: the values of the first S symbols
+abbrev pub inputsOf : (S : ℕ) → Env → List ℕ
+inputsOf S τ = map τ (numbersFrom 0 S)

@@ -33,14 +33,14 @@ use Rattle.trace.specs.Trace.{Stmt, Assign, Test, Seen, atFirst, see}
 use Rattle.trace.specs.WellFormed.{ExprOk, StmtsOk}
 use Rattle.trace.specs.Judge.{judge}
 use Rattle.trace.specs.Asserts.{isAssert, hasAssert, asserted}
-use Rattle.trace.specs.Past.{valuesPast}
-use Rattle.trace.specs.PastLaws.{Words, env-words, assign-words, past-words, past-keeps, Below, below-first, below-assign}
+use Rattle.trace.specs.Past.{valuesPast, OfWords}
+use Rattle.trace.specs.PastLaws.{env-words, assign-words, past-words, past-keeps, Below, below-first, below-assign}
 use Rattle.trace.specs.PastLaws.{AgreeIn, value-in, past-equation}
 use Rattle.script.specs.Smt.{Relation, distinct, bvule, bvslt, bvUnary, bvBinary, related, Term, hex, slot, wordIn, wordOf}
 use Rattle.script.specs.Smt.{Formula, both, holds, solves, satisfies}
 use Rattle.script.specs.SmtLaws.{sub-is, shl-is, lshr-is, ule-is, urem-is, slt-is}
 use Rattle.script.specs.Script.{unaryTerm, binaryTerm, tokenTerm, termFrom, exprTerm, numbersFrom, equationsOf, tested, violation}
-use Rattle.script.specs.Script.{scriptOf}
+use Rattle.script.specs.Script.{scriptOf, inputsOf}
 
 -- ---- an operator's term means the operator
 
@@ -119,7 +119,7 @@ held-step σ ξ Ite (b ∷ a ∷ z ∷ st) k q c w h =
     let v : ξ (k + 2) ≡ b = ap ξ n ∙ h .0 in
     held-push ξ k _ (choice z a b) st l (rw (x, y, v)) (h .1 .1 .1)
 
-module _ (may : ℕ → Bool) (σ : Env) (ws : Words σ) where
+module _ (may : ℕ → Bool) (σ : Env) (ws : OfWords σ) where
   term-means : (d : ℕ) (e : List Token) (st : List ℕ) (ξ : Env) → length st ≡ d → Ok may 17 d 1 e → All (Holds Trace) e → All Word st
       → Held ξ st → wordIn σ ξ (termFrom d e) ≡ top (eval σ e st)
   unfolding wordIn
@@ -200,7 +200,7 @@ module _ (p : ℕ) (o : Outcome) where
   bound-unsafe true = refl
   bound-unsafe false = refl
 
-module _ (seen : Seen) (e : List Token) (σ τ : Env) (o : ExprOk (seen .readable) e) (ws : Words τ) (a : AgreeIn seen σ τ) where
+module _ (seen : Seen) (e : List Token) (σ τ : Env) (o : ExprOk (seen .readable) e) (ws : OfWords τ) (a : AgreeIn seen σ τ) where
   -- the term has in a model the value that the expression has in judging
   judged : wordOf τ (exprTerm e) ≡ value σ e
   judged = expr-means (seen .readable) τ ws e o ∙ sym (value-in seen σ τ e o a)
@@ -222,7 +222,7 @@ module _ (seen : Seen) (e : List Token) (σ τ : Env) (o : ExprOk (seen .readabl
   test-judged Assert p ts ih = ap₂ _||_ is-zero ih ∙ assert-unsafe p (judge ts σ) (eqb (value σ e) 0)
   test-judged Bound p ts ih = ap₂ _&&_ (ap not is-zero) ih ∙ bound-unsafe p (judge ts σ) (eqb (value σ e) 0)
 
-model-judged : (S : ℕ) (seen : Seen) (ts : List Stmt) (σ τ : Env) → StmtsOk S seen ts → Words τ → AgreeIn seen σ τ
+model-judged : (S : ℕ) (seen : Seen) (ts : List Stmt) (σ τ : Env) → StmtsOk S seen ts → OfWords τ → AgreeIn seen σ τ
     → solves τ (equationsOf ts) ≡ true → holds τ (violation ts) ≡ unsafe (judge ts σ)
 unfolding violation holds judge
 model-judged S seen [] σ τ o ws a q = refl
@@ -235,7 +235,7 @@ model-judged S seen (Test k p e ∷ ts) σ τ o ws a q =
 
 -- ---- the values past any stop solve the equations
 
-past-solves : (S : ℕ) (seen : Seen) (ts : List Stmt) (σ : Env) → StmtsOk S seen ts → Words σ → Below seen
+past-solves : (S : ℕ) (seen : Seen) (ts : List Stmt) (σ : Env) → StmtsOk S seen ts → OfWords σ → Below seen
     → solves (valuesPast ts σ) (equationsOf ts) ≡ true
 unfolding valuesPast
 past-solves S seen [] σ o ws b = refl
@@ -250,15 +250,11 @@ past-solves S seen (Test k p e ∷ ts) σ o ws b = past-solves S seen ts σ (o .
 
 -- ---- what the script says
 
--- the values of the first S symbols
-abbrev pub inputsOf : (S : ℕ) → Env → List ℕ
-inputsOf S τ = map τ (numbersFrom 0 S)
-
 pub inputs-length : (τ : Env) (x n : ℕ) → length (map τ (numbersFrom x n)) ≡ n
 inputs-length τ x zero = refl
 inputs-length τ x (suc n) = ap suc (inputs-length τ (suc x) n)
 
-pub inputs-words : (τ : Env) (x n : ℕ) → Words τ → All Word (map τ (numbersFrom x n))
+pub inputs-words : (τ : Env) (x n : ℕ) → OfWords τ → All Word (map τ (numbersFrom x n))
 inputs-words τ x zero ws = tt
 inputs-words τ x (suc n) ws = (ws x, inputs-words τ (suc x) n ws)
 
@@ -273,7 +269,7 @@ module _ (head : Head) (ts : List Stmt) (o : StmtsOk (head .inputs) (atFirst hea
   S = head .inputs
 
   -- in any environment of words that solves the equations
-  claim-judged : (σ τ : Env) → Words τ → ((x : ℕ) → x < S → σ x ≡ τ x) → solves τ (equationsOf ts) ≡ true
+  claim-judged : (σ τ : Env) → OfWords τ → ((x : ℕ) → x < S → σ x ≡ τ x) → solves τ (equationsOf ts) ≡ true
       → holds τ (violation (asserted ts)) ≡ unsafe (judge ts σ)
   claim-judged σ τ ws a q = claim-cut τ ts ∙ model-judged S (atFirst head) ts σ τ o ws (λ y r. a y (ltb-true y S r)) q
 
@@ -289,14 +285,14 @@ module _ (head : Head) (ts : List Stmt) (o : StmtsOk (head .inputs) (atFirst hea
       (λ x l. sym (past-keeps S (atFirst head) ts (envOf v) o x l)) s
 
   -- for the inputs of any model the trace is unsafe: what a solver finds can be judged again
-  pub model-violates : (τ : Env) → Words τ → satisfies τ (scriptOf S ts) ≡ true → unsafe (judge ts (envOf (inputsOf S τ))) ≡ true
+  pub model-violates : (τ : Env) → OfWords τ → satisfies τ (scriptOf S ts) ≡ true → unsafe (judge ts (envOf (inputsOf S τ))) ≡ true
   unfolding satisfies scriptOf
   model-violates τ ws q =
       let b = and-both (solves τ (equationsOf ts)) (holds τ (violation (asserted ts))) q in
       sym (claim-judged (envOf (inputsOf S τ)) τ ws (λ x l. inputs-are τ 0 S x l ∙ ap τ (zero-add x)) (b .0)) ∙ b .1
 
   -- a solver answers `sat` exactly if the trace is unsafe for some valuation
-  pub sat-iff : ((τ : Env) × Words τ × (satisfies τ (scriptOf S ts) ≡ true))
+  pub sat-iff : ((τ : Env) × OfWords τ × (satisfies τ (scriptOf S ts) ≡ true))
       ↔ ((v : List ℕ) × (length v ≡ S) × All Word v × (unsafe (judge ts (envOf v)) ≡ true))
   sat-iff = (
     λ m. (inputsOf S (m .0), inputs-length (m .0) 0 S, inputs-words (m .0) 0 S (m .1), model-violates (m .0) (m .1) (m .2)),

@@ -16,20 +16,16 @@ use Rattle.expr.specs.EvalLaws.{update-same, update-other, reads-known, value-a
 use Rattle.file.specs.File.{Head}
 use Rattle.trace.specs.Trace.{Stmt, Assign, Test, Seen, atFirst, see}
 use Rattle.trace.specs.WellFormed.{ExprOk, StmtsOk}
-use Rattle.trace.specs.Past.{valuesPast}
+use Rattle.trace.specs.Past.{valuesPast, OfWords}
 
 -- ---- words
 
--- every symbol's value is a word
-abbrev pub Words : Env → Type 0
-Words σ = (x : ℕ) → Word (σ x)
-
-pub env-words : (v : List ℕ) → All Word v → Words (envOf v)
+pub env-words : (v : List ℕ) → All Word v → OfWords (envOf v)
 env-words [] h x = omega arith
 env-words (a ∷ v) h zero = h .0
 env-words (a ∷ v) h (suc x) = env-words v (h .1) x
 
-update-words : (σ : Env) (s v : ℕ) → Words σ → Word v → Words (update σ s v)
+update-words : (σ : Env) (s v : ℕ) → OfWords σ → Word v → OfWords (update σ s v)
 update-words σ s v h k x = go (eqb x s)
   where
     go : (b : Bool) → Word (cond b v (σ x))
@@ -37,10 +33,10 @@ update-words σ s v h k x = go (eqb x s)
     go false = h x
 
 -- an Assign leaves words
-pub assign-words : (may : ℕ → Bool) (σ : Env) (x : ℕ) (e : List Token) → ExprOk may e → Words σ → Words (update σ x (value σ e))
+pub assign-words : (may : ℕ → Bool) (σ : Env) (x : ℕ) (e : List Token) → ExprOk may e → OfWords σ → OfWords (update σ x (value σ e))
 assign-words may σ x e o h = update-words σ x (value σ e) h (value-word Trace σ e (o .1) (λ y r. h y))
 
-pub past-words : (S : ℕ) (seen : Seen) (ts : List Stmt) (σ : Env) → StmtsOk S seen ts → Words σ → Words (valuesPast ts σ)
+pub past-words : (S : ℕ) (seen : Seen) (ts : List Stmt) (σ : Env) → StmtsOk S seen ts → OfWords σ → OfWords (valuesPast ts σ)
 unfolding valuesPast
 past-words S seen [] σ o h = h
 past-words S seen (Assign p x e ∷ ts) σ o h =

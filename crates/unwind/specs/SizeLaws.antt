@@ -14,11 +14,11 @@ use Rattle.expr.specs.Token.{Token, Const, Symbol, Un, Bin, Ite, operands, toke
 use Rattle.expr.specs.TokenLaws.{bytes-append}
 use Rattle.expr.specs.Eval.{rename}
 use Rattle.file.specs.Outcome.{Kind, Bound}
-use Rattle.file.specs.File.{headSize, recordBytes, recordsBytes}
+use Rattle.file.specs.File.{recordBytes, recordsBytes}
 use Rattle.file.specs.EncodeLaws.{records-append, encode-length}
 use Rattle.table.specs.Table.{Instr, Assign, Test, IfThenGoto}
 use Rattle.table.specs.Run.{placeIn}
-use Rattle.trace.specs.Trace.{stmtBytes, traceVersion, traceHead, encodeTrace}
+use Rattle.trace.specs.Trace.{stmtBytes, traceHead, encodeTrace}
 use Rattle.unwind.specs.Places.{Check, Jump, Exit, Place, At, actionIn, copyFrom, copiesFrom, places}
 use Rattle.unwind.specs.Unwind.{Newest, guarded, statement, advance, statements, atFirst, unwind}
 use Rattle.unwind.specs.UnwindLaws.{after, statements-append}

@@ -14,7 +14,7 @@ ghost use Rattle.expr.specs.Eval.{rename};
 ghost use Rattle.expr.specs.Shown.{isWhole, tokensOf};
 ghost use Rattle.file.specs.File.{recordBytes};
 ghost use Rattle.file.specs.Shown.{kindOf};
-ghost use Rattle.file.specs.Outcome.{Assume, Bound};
+ghost use Rattle.file.specs.Outcome.{Bound};
 ghost use Rattle.trace.specs.Trace.{Assign, Test, stmtBytes};
 ghost use Rattle.write.specs.Splice.{splice, Wrote};
 ghost use Rattle.unwind.specs.Unwind.{guarded, opening};

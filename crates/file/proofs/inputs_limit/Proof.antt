@@ -1,6 +1,5 @@
 use mathlib.Core.Path.{refl}
 use Rattle.file.specs.File.{inputRoom, inputsLimit}
-use borrow.Author.Needs.{needs}
 use Rattle.file.proofs.inputs_limit.Statement.{statement}
 use Rattle.file.proofs.inputs_limit.Tie as tie
 

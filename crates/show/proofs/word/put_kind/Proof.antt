@@ -2,13 +2,11 @@ use borrow.Author.Needs.{needs}
 use Rattle.show.proofs.word.put_kind.Statement.{statement}
 use Rattle.show.proofs.word.put_kind.Tie as tie
 use native.Mathlib.Omega.{arith}
-use mathlib.Core.Path.{_≡_, sym, ap, _∙_}
-use mathlib.Core.Bool.{cond}
+use mathlib.Core.Path.{_≡_, sym, ap}
 use mathlib.Core.List.{_++_}
 use borrow.Author.Tests.{eq-eqb, ne-eqb}
-use lib.Dec.{eqb}
 use Rattle.write.specs.SpliceLaws.{wrote-as}
-use Rattle.file.specs.Outcome.{Kind, Assume, Assert, Bound}
+use Rattle.file.specs.Outcome.{Assume, Assert, Bound}
 use Rattle.trace.specs.Shown.{testKind}
 use Rattle.write.specs.Ascii.{ascii}
 use Rattle.show.specs.Text.{kindName}

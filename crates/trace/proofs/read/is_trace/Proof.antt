@@ -1,4 +1,3 @@
-use mathlib.Core.Path.{sym}
 use borrow.Author.Tests.{eq-eqb, ne-eqb}
 use Rattle.trace.specs.Trace.{traceVersion, oldVersion, isTrace}
 use Rattle.trace.proofs.read.is_trace.Statement.{statement}
