@@ -1,4 +1,4 @@
-/* Kadvitul: a proved checker for merge rules. Version 2.0.0.
+/* Kadvitul: a proved checker for merge rules. Version 2.1.0.
  *
  * A rule is a table of bytes, and a trace is a file of bytes too; docs/FORMAT.md says what they hold. Every call but
  * kadvitul_version takes any bytes at all and gives one number of the documented answer; the calls that belong together give the numbers of
@@ -6,8 +6,8 @@
  * several threads. A pointer may be NULL where its length is 0.
  *
  * The calls that write fill out from its first byte and leave the rest of it as it was; a refusal leaves all of it. Each of them does so,
- * whichever number it gives. out must not overlap the file. KADVITUL_ROOM bytes hold every result, and a slice never takes more than its
- * trace.
+ * whichever number it gives. out must not overlap the file. KADVITUL_ROOM bytes hold every trace and slice, and a slice never takes more
+ * than its trace; KADVITUL_SCRIPT_ROOM bytes hold every script.
  */
 #ifndef KADVITUL_H
 #define KADVITUL_H
@@ -20,11 +20,12 @@ extern "C" {
 #endif
 
 /* The version: 10000 times the first number, 100 times the second, and the third. kadvitul_version gives that of the archive. */
-#define KADVITUL_VERSION 20000
-#define KADVITUL_VERSION_TEXT "2.0.0"
+#define KADVITUL_VERSION 20100
+#define KADVITUL_VERSION_TEXT "2.1.0"
 
-/* The room that always does, in bytes. */
+/* The room that always does, in bytes: for a trace or a slice, and for a script. */
 #define KADVITUL_ROOM 65535
+#define KADVITUL_SCRIPT_ROOM 4000000
 
 /* Replies. The offset is that of the refused record's first byte, or of the first spare byte, for 5 to 7, and 0 otherwise. A refusal's
  * other numbers are 0. */
@@ -86,6 +87,12 @@ uint32_t kadvitul_slice_offset(const uint8_t *trace, size_t trace_len, uint8_t *
 uint32_t kadvitul_slice_length(const uint8_t *trace, size_t trace_len, uint8_t *out, size_t out_len);
 uint32_t kadvitul_slice_inputs(const uint8_t *trace, size_t trace_len, uint8_t *out, size_t out_len);
 uint64_t kadvitul_slice_mask(const uint8_t *trace, size_t trace_len, uint8_t *out, size_t out_len);
+
+/* Writing the solver's script of a trace: SMT-LIB 2 text, QF_BV, of which docs/SCRIPT.md has every letter. The length is that of the text;
+ * no zero follows it. Some inputs make the trace unsafe exactly if the script can be satisfied, and the inputs of a solution do so. */
+uint32_t kadvitul_script_reply(const uint8_t *trace, size_t trace_len, uint8_t *out, size_t out_len);
+uint32_t kadvitul_script_offset(const uint8_t *trace, size_t trace_len, uint8_t *out, size_t out_len);
+uint32_t kadvitul_script_length(const uint8_t *trace, size_t trace_len, uint8_t *out, size_t out_len);
 
 #ifdef __cplusplus
 }

@@ -2,6 +2,7 @@
  *
  *   nightly rule BOUND FILE VALUATIONS     runs the rule of FILE under a bound on its back jumps, then slices its trace
  *   nightly trace FILE VALUATIONS          judges the trace of FILE
+ *   nightly script FILE                    writes the solver's script of the trace of FILE, which docs/SCRIPT.md explains
  *
  * VALUATIONS has one valuation after the other, 4 bytes big-endian for each input; FILE's byte 3 says how many inputs there are. A file
  * without valuations, or with a part of one at its end, is handed over as it is, and refused by its length where there are inputs.
@@ -10,8 +11,8 @@
  * Unsafe, do not merge. Cut, do not merge: the bound was too small to tell. A trace of version 129 shows a cut as stopped, so there stopped
  * is no merge either. FILE has to be a whole trace: a slice may end where its trace is cut.
  *
- * Exit status: 0 merge all; 1 wrong usage; 2 a call refused, whatever the others said; 3 a file cannot be read, the output not be written,
- * or the archive is of another version; 4 some unsafe; 5 none unsafe, but some that the bound may have cut. */
+ * Exit status: 0 merge all, or the script is written; 1 wrong usage; 2 a call refused, whatever the others said; 3 a file cannot be read,
+ * the output not be written, or the archive is of another version; 4 some unsafe; 5 none unsafe, but some that the bound may have cut. */
 #include <errno.h>
 #include <inttypes.h>
 #include <stdio.h>
@@ -183,6 +184,31 @@ static int job(const uint64_t *bound, const char *path, const char *valuations_p
     return status;
 }
 
+/* A length of 0 is a refusal: no script is empty. */
+static int script(const struct bytes *trace) {
+    uint8_t *out = malloc(KADVITUL_SCRIPT_ROOM);
+    if (out == NULL) return UNREADABLE;
+    uint32_t len = kadvitul_script_length(trace->at, trace->len, out, KADVITUL_SCRIPT_ROOM);
+    int status = MERGE_ALL;
+    if (len > 0) {
+        fwrite(out, 1, len, stdout);
+    } else {
+        status = refused("script", kadvitul_script_reply(trace->at, trace->len, out, KADVITUL_SCRIPT_ROOM),
+                         kadvitul_script_offset(trace->at, trace->len, out, KADVITUL_SCRIPT_ROOM));
+    }
+    free(out);
+    return status;
+}
+
+static int script_job(const char *path) {
+    struct bytes file = {NULL, 0};
+    int status = read_file(path, &file);
+    if (status == MERGE_ALL) status = script(&file);
+    free(file.at);
+    if (fflush(stdout) != 0 || ferror(stdout)) status = UNREADABLE;
+    return status;
+}
+
 /* Digits alone, of a number below 2^64. */
 static int read_bound(const char *text, uint64_t *bound) {
     char *end = NULL;
@@ -199,6 +225,7 @@ int main(int argc, char **argv) {
     }
     if (argc == 5 && strcmp(argv[1], "rule") == 0 && read_bound(argv[2], &bound)) return job(&bound, argv[3], argv[4]);
     if (argc == 4 && strcmp(argv[1], "trace") == 0) return job(NULL, argv[2], argv[3]);
-    fprintf(stderr, "usage: nightly rule BOUND FILE VALUATIONS | nightly trace FILE VALUATIONS\n");
+    if (argc == 3 && strcmp(argv[1], "script") == 0) return script_job(argv[2]);
+    fprintf(stderr, "usage: nightly rule BOUND FILE VALUATIONS | nightly trace FILE VALUATIONS | nightly script FILE\n");
     return USAGE;
 }

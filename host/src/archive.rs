@@ -69,6 +69,9 @@ calls! {
         slice_length(trace) -> u32, calls kadvitul_slice_length;
         slice_inputs(trace) -> u32, calls kadvitul_slice_inputs;
         slice_mask(trace) -> u64, calls kadvitul_slice_mask;
+        script_reply(trace) -> u32, calls kadvitul_script_reply;
+        script_offset(trace) -> u32, calls kadvitul_script_offset;
+        script_length(trace) -> u32, calls kadvitul_script_length;
     }
 }
 

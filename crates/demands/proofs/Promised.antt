@@ -1,6 +1,6 @@
 -- All that is promised, from the theorems beside this file.
 use Rattle.demands.specs.Promised.{Promised}
-use Rattle.demands.proofs.RepliesProof.{run-demand1, judge-demand1, write-trace-demand1, slice-trace-demand1}
+use Rattle.demands.proofs.RepliesProof.{run-demand1, judge-demand1, write-trace-demand1, slice-trace-demand1, write-script-demand1}
 use Rattle.demands.proofs.RefusalsProof as Rest
 use Rattle.demands.proofs.Demand3Proof as Third
 use Rattle.demands.proofs.SolverProof as Asked
@@ -11,12 +11,16 @@ promised = record {
   judge-replies = judge-demand1;
   trace-replies = write-trace-demand1;
   slice-replies = slice-trace-demand1;
+  script-replies = write-script-demand1;
   run-rest = Rest.run-rest;
   judge-rest = Rest.judge-rest;
   trace-rest = Rest.write-trace-rest;
   slice-rest = Rest.slice-trace-rest;
+  script-rest = Rest.write-script-rest;
   trace-gives-rest = Rest.trace-gives-rest;
   slice-gives-rest = Rest.slice-gives-rest;
+  script-gives-rest = Rest.script-gives-rest;
   demand3 = Third.demand3;
+  posed = Asked.posed;
   solver = Asked.solver;
 }

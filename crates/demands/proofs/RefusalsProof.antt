@@ -28,10 +28,14 @@ use Rattle.slice.specs.declared.Answer as Kept
 use Rattle.slice.specs.Slice.{slice}
 use Rattle.slice.specs.Answer.{Sliced, sliceAnswer, SliceWritten}
 use Rattle.slice.specs.Answer as Slicing
-use Rattle.kadvitul.specs.Interface.{TraceNumber, TraceGives}
-use Rattle.kadvitul.specs.Interface.{SliceNumber, SliceGives}
+use Rattle.script.specs.declared.Answer as Exported
+use Rattle.script.specs.ScriptText.{scriptText}
+use Rattle.script.specs.Answer.{scriptAnswer, ScriptWritten}
+use Rattle.script.specs.Answer as Scripting
+use Rattle.kadvitul.specs.Interface.{TraceNumber, TraceGives, SliceNumber, SliceGives, ScriptNumber, ScriptGives}
 use Rattle.demands.specs.Valuation.{Handed, ranWith, judgedWith}
-use Rattle.demands.specs.Refusals.{RunRest, JudgeRest, TraceRest, SliceRest, TraceGivesRest, SliceGivesRest}
+use Rattle.demands.specs.Refusals.{RunRest, JudgeRest, TraceRest, SliceRest, ScriptRest, TraceGivesRest, SliceGivesRest}
+use Rattle.demands.specs.Refusals.{ScriptGivesRest}
 use Rattle.demands.proofs.ValuationLaws.{wordsIn, ran-words, judged-words}
 
 -- ---- running
@@ -154,3 +158,30 @@ pub slice-gives-rest : (which : SliceNumber) (trace out out′ : List ℕ) (r : 
 slice-gives-rest which trace out out′ r w h =
     let empty = slice-empty trace (length out) h in
     (w .buffer ∙ ap (λ bs. over bs out) (empty .0), ap length (empty .0), empty .1, empty .2)
+
+-- ---- writing a script
+
+script-empty : (trace : List ℕ) (room : ℕ) → ((scriptAnswer trace room) .reply ≡ 0 → ⊥) → (scriptAnswer trace room) .bytes ≡ []
+unfolding scriptAnswer
+script-empty trace room = go (readTrace trace)
+  where
+    roomy : (b : Bool) (text : List ℕ) → ((cond b (Scripting.exported text) (Scripting.refusal 10 0)) .reply ≡ 0 → ⊥)
+        → (cond b (Scripting.exported text) (Scripting.refusal 10 0)) .bytes ≡ []
+    roomy true text h = absurd (h refl)
+    roomy false text h = refl
+
+    go : (x : Input Stmt) → ((Scripting.answered room x) .reply ≡ 0 → ⊥) → (Scripting.answered room x) .bytes ≡ []
+    go (Refused r o) h = refl
+    go (Accepted head ts) h = let text = scriptText (head .inputs) ts in roomy (leb (length text) room) text h
+
+pub write-script-rest : (trace out out′ : List ℕ) (r : Exported.Answer) → ScriptWritten trace out out′ r → ScriptRest out out′ r
+write-script-rest trace out out′ r w h = (ap (λ a. a .length) (w .answer) ∙ ap length empty, w .buffer ∙ ap (λ bs. over bs out) empty)
+  where
+    empty : (scriptAnswer trace (length out)) .bytes ≡ []
+    empty = script-empty trace (length out) (λ e. h (ap (λ a. a .reply) (w .answer) ∙ e))
+
+pub script-gives-rest : (which : ScriptNumber) (trace out out′ : List ℕ) (r : ℕ) → ScriptGives which trace out out′ r
+    → ScriptGivesRest (scriptAnswer trace (length out)) out out′
+script-gives-rest which trace out out′ r w h =
+    let empty = script-empty trace (length out) h in
+    (w .buffer ∙ ap (λ bs. over bs out) empty, ap length empty)

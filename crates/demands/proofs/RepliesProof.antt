@@ -14,6 +14,7 @@
 use Prim.Native.Nat.{ℕ, _+_, _*_, _<_}
 use native.Mathlib.Omega.{arith}
 use mathlib.Core.Path.{_≡_, refl, sym, ap, ap₂, _∙_, subst⁻¹}
+use mathlib.Core.Logic.{_↔_}
 use mathlib.Core.Bool.{Bool, true, false, cond, _&&_}
 use mathlib.Core.List.{List}
 use lib.ListN.{length}
@@ -41,11 +42,15 @@ use Rattle.unwind.specs.Answer.{traceAnswer}
 use Rattle.slice.specs.Slice.{slice}
 use Rattle.slice.specs.Answer as Slicing
 use Rattle.slice.specs.Answer.{sliceAnswer}
+use Rattle.script.specs.ScriptText.{scriptText}
+use Rattle.script.specs.Answer as Scripting
+use Rattle.script.specs.Answer.{scriptAnswer}
 use Rattle.expr.specs.Eval.{envOf}
 use Rattle.demands.specs.Valuation.{Handed, ranWith, judgedWith}
 use Rattle.demands.proofs.ValuationLaws.{wordsIn, words-length, ran-words, judged-words}
-use Rattle.demands.specs.Replies.{Call, Run, Judge, WriteTrace, SliceTrace, bytesOf, Row, Short, Version, Total, Limits, Frame, Rule}
-use Rattle.demands.specs.Replies.{Expression, Spare, Bound, Size, Room, Valuation, number, offset, result, When, rank, Demand1}
+use Rattle.demands.specs.Replies.{Call, Run, Judge, WriteTrace, SliceTrace, WriteScript, bytesOf, result, When, Demand1}
+use Rattle.demands.specs.Replies.{Row, Short, Version, Total, Limits, Frame, Rule, Expression, Spare, Bound, Size, Room, Valuation}
+use Rattle.demands.specs.Replies.{number, offset, rank}
 use Rattle.demands.proofs.RowOrder.{first-same, Clear, clear-past, clear-all}
 use Rattle.demands.proofs.FileReplies.{RefusedBy, FileReply, table-reply, trace-reply}
 
@@ -264,41 +269,73 @@ module _ (t : List ℕ) (K room : ℕ) where
       first-demand writing ((traceAnswer t K room) .reply) ((traceAnswer t K room) .offset)
       (trace-first (readTable t) refl (table-reply writing refl o))
 
--- ---- slicing: 10
+-- ---- slicing and writing a script: 10
+
+-- of a call without bound, size and valuation, 10 where its result is longer than the room
+module _ (c : Call) (room : ℕ) (unbound : When c Bound → ⊥) (unsized : When c Size → ⊥) (unvalued : When c Valuation → ⊥)
+    (tight : When c Room ↔ (room < length (result c))) where
+  fit-first : (bytes : List ℕ) → result c ≡ bytes → Clear c (5 + 3 * headerCount (bytesOf c)) → (y : Bool) → leb (length bytes) room ≡ y
+      → First c (cond y 0 10) 0
+  fit-first bytes i clear y f = go y f
+    where
+      total : length (result c) ≡ length bytes
+      total = ap length i
+
+      sized : Clear c (7 + 3 * headerCount (bytesOf c))
+      sized = no-size c (no-bound c clear unbound) unsized
+
+      go : (y : Bool) → leb (length bytes) room ≡ y → First c (cond y 0 10) 0
+      go false f = at-row c Room sized (tight .1 (omega (arith, leb-false (length bytes) room f, total)))
+      go true f =
+          no-row refl refl
+          (no-valuation c (no-room c sized (λ h. omega (arith, leb-true (length bytes) room f, tight .0 h, total))) unvalued)
 
 module _ (t : List ℕ) (room : ℕ) where
   abbrev slicing : Call
   slicing = SliceTrace t room
 
-  slice-tested : (head : Head) (kept : List Stmt) → result slicing ≡ encodeTrace head kept → Clear slicing (5 + 3 * headerCount t)
-      → (y : Bool) → leb (length (encodeTrace head kept)) room ≡ y
+  sliced : (head : Head) (kept : List Stmt) (y : Bool) → First slicing (cond y 0 10) 0
       → First slicing ((cond y (Slicing.sliceOf head kept) (Slicing.refusal 10 0)) .reply)
       ((cond y (Slicing.sliceOf head kept) (Slicing.refusal 10 0)) .offset)
-  slice-tested head kept i clear y f = go y f
-    where
-      total : length (result slicing) ≡ length (encodeTrace head kept)
-      total = ap length i
-
-      unsized : Clear slicing (7 + 3 * headerCount t)
-      unsized = no-size slicing (no-bound slicing clear (λ h. h)) (λ h. h)
-
-      go : (y : Bool) → leb (length (encodeTrace head kept)) room ≡ y
-          → First slicing ((cond y (Slicing.sliceOf head kept) (Slicing.refusal 10 0)) .reply)
-          ((cond y (Slicing.sliceOf head kept) (Slicing.refusal 10 0)) .offset)
-      go false f = at-row slicing Room unsized (omega (arith, leb-false (length (encodeTrace head kept)) room f, total))
-      go true f =
-          no-row refl refl (no-valuation slicing
-          (no-room slicing unsized (λ h. omega (arith, leb-true (length (encodeTrace head kept)) room f, total))) (λ h. h))
+  sliced head kept true f = f
+  sliced head kept false f = f
 
   slice-first : (i : Input Stmt) → readTrace t ≡ i → FileReply (SliceTrace t room) i
       → First (SliceTrace t room) ((Slicing.answered room i) .reply) ((Slicing.answered room i) .offset)
   slice-first (Refused r at) q f = some-row f
   slice-first (Accepted head ts) q clear =
-      slice-tested head (slice ts) (ap₂ (λ head ts. encodeTrace head (slice ts)) (trace-head t head ts q) (ap listed q)) clear
-      (leb (length (encodeTrace head (slice ts))) room) refl
+      let bytes = encodeTrace head (slice ts) in
+      sliced head (slice ts) (leb (length bytes) room)
+      (fit-first slicing room (λ h. h) (λ h. h) (λ h. h) (λ h. h, λ h. h) bytes
+      (ap₂ (λ head ts. encodeTrace head (slice ts)) (trace-head t head ts q) (ap listed q)) clear (leb (length bytes) room) refl)
 
   pub slice-trace-demand1 : All Byte t → Demand1 (SliceTrace t room) ((sliceAnswer t room) .reply) ((sliceAnswer t room) .offset)
   unfolding sliceAnswer
   slice-trace-demand1 o =
       first-demand slicing ((sliceAnswer t room) .reply) ((sliceAnswer t room) .offset)
       (slice-first (readTrace t) refl (trace-reply slicing refl o))
+
+module _ (t : List ℕ) (room : ℕ) where
+  abbrev scripting : Call
+  scripting = WriteScript t room
+
+  scripted : (text : List ℕ) (y : Bool) → First scripting (cond y 0 10) 0
+      → First scripting ((cond y (Scripting.exported text) (Scripting.refusal 10 0)) .reply)
+      ((cond y (Scripting.exported text) (Scripting.refusal 10 0)) .offset)
+  scripted text true f = f
+  scripted text false f = f
+
+  script-first : (i : Input Stmt) → readTrace t ≡ i → FileReply (WriteScript t room) i
+      → First (WriteScript t room) ((Scripting.answered room i) .reply) ((Scripting.answered room i) .offset)
+  script-first (Refused r at) q f = some-row f
+  script-first (Accepted head ts) q clear =
+      let text = scriptText (head .inputs) ts in
+      scripted text (leb (length text) room)
+      (fit-first scripting room (λ h. h) (λ h. h) (λ h. h) (λ h. h, λ h. h) text
+      (ap₂ scriptText (trace-inputs t head ts q) (ap listed q)) clear (leb (length text) room) refl)
+
+  pub write-script-demand1 : All Byte t → Demand1 (WriteScript t room) ((scriptAnswer t room) .reply) ((scriptAnswer t room) .offset)
+  unfolding scriptAnswer
+  write-script-demand1 o =
+      first-demand scripting ((scriptAnswer t room) .reply) ((scriptAnswer t room) .offset)
+      (script-first (readTrace t) refl (trace-reply scripting refl o))

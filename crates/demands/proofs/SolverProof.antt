@@ -3,6 +3,7 @@
 use Prim.Native.Nat.{ℕ, _≤_}
 use mathlib.Core.Path.{_≡_, sym, ap, ap₂, _∙_, subst}
 use mathlib.Core.Bool.{true}
+use mathlib.Core.Logic.{_↔_}
 use mathlib.Core.List.{List}
 use lib.ListN.{length}
 use Rattle.expr.specs.Lists.{All}
@@ -20,7 +21,8 @@ use Rattle.trace.specs.Trace.{Stmt, atFirst, readTrace, traceHead, encodeTrace}
 use Rattle.trace.specs.TraceLaws.{trace-inputs}
 use Rattle.trace.specs.WellFormed.{StmtsOk}
 use Rattle.trace.specs.Judge.{judge}
-use Rattle.trace.specs.Past.{OfWords}
+use Rattle.trace.specs.Answer.{judgeAnswer}
+use Rattle.trace.specs.Past.{valuesPast, OfWords}
 use Rattle.unwind.specs.Unwind.{unwind}
 use Rattle.unwind.specs.UnwindLaws.{unwind-ok}
 use Rattle.unwind.specs.Answer.{traceAnswer}
@@ -31,9 +33,54 @@ use Rattle.script.specs.Smt.{satisfies}
 use Rattle.script.specs.Script.{scriptOf, inputsOf}
 use Rattle.script.specs.ScriptLaws.{inputs-length, inputs-words, model-violates, sat-iff}
 use Rattle.script.specs.ScriptText.{textOf}
-use Rattle.script.specs.BytesLaws.{script-done, script-bytes}
-use Rattle.demands.specs.Solver.{Fails, askedBy, Asks, Solver}
+use Rattle.script.specs.Answer.{scriptAnswer}
+use Rattle.script.specs.BytesLaws.{script-accepted, script-done, script-bytes, script-judges, model-judged-unsafe, script-sat}
+use Rattle.demands.specs.Solver.{askedBy, AsksFor, Violated, Posed, Fails, Asks, Solver}
 use Rattle.demands.proofs.Demand3Proof.{read-back, slice-back, slice-answer, run-done, run-alike, slice-as-run}
+
+-- ---- of any trace
+
+module _ (s : List ℕ) (head : Head) (ts : List Stmt) (is : readTrace s ≡ Accepted head ts) where
+  inputs-same : headerInputs s ≡ head .inputs
+  inputs-same = trace-inputs s head ts is
+
+  is-script : askedBy s ≡ scriptOf (head .inputs) ts
+  is-script = ap₂ scriptOf inputs-same (ap listed is)
+
+  -- what the script of the trace asks for, `askedBy` asks for
+  asks-for : (F : List ℕ → Type 0)
+      → ((τ : Env) → OfWords τ → satisfies τ (scriptOf (head .inputs) ts) ≡ true → F (inputsOf (head .inputs) τ))
+      → ((v : List ℕ) → F v → (τ : Env) × OfWords τ × (satisfies τ (scriptOf (head .inputs) ts) ≡ true))
+      → AsksFor s F
+  asks-for F found solved = record {
+    satisfiable = (
+      λ m. (inputsOf (head .inputs) (m .0), found (m .0) (m .1) (here (m .0) (m .2))),
+      λ m. let k = solved (m .0) (m .1) in (k .0, k .1, subst (λ c. satisfies (k .0) c ≡ true) (sym is-script) (k .2)),
+    );
+    solution = λ τ ws q. subst (λ n. F (inputsOf n τ)) (sym inputs-same) (found τ ws (here τ q));
+  }
+    where
+      here : (τ : Env) → satisfies τ (askedBy s) ≡ true → satisfies τ (scriptOf (head .inputs) ts) ≡ true
+      here τ q = subst (λ c. satisfies τ c ≡ true) is-script q
+
+  posed-accepted : All Byte s → Posed s
+  posed-accepted o = record {
+    text = λ room done. script-bytes s head ts is room done ∙ ap textOf (sym is-script);
+    at-its-values = λ v l w.
+        subst (λ us. (satisfies (valuesPast us (envOf v)) (askedBy s) ≡ true) ↔ ((judgeAnswer s v) .verdict ≡ 1)) (sym (ap listed is))
+        (subst (λ c. (satisfies (valuesPast ts (envOf v)) c ≡ true) ↔ ((judgeAnswer s v) .verdict ≡ 1)) (sym is-script)
+        (script-judges s head ts is o v (l ∙ inputs-same) w));
+    asks = asks-for (Violated s)
+        (λ τ ws q.
+        let m = model-judged-unsafe s head ts is o τ ws q in
+        record { inputs = m .0 ∙ sym inputs-same; words = m .1; unsafe = m .2 })
+        (λ v f. script-sat s head ts is o .1 (v, f .inputs ∙ inputs-same, f .words, f .unsafe));
+  }
+
+pub posed : (s : List ℕ) (room : ℕ) → All Byte s → (scriptAnswer s room) .reply ≡ 0 → Posed s
+posed s room o done = let found = script-accepted s room done in posed-accepted s (found .0) (found .1) (found .2) o
+
+-- ---- of a written trace, and of its slice
 
 module _ (b : List ℕ) (K : ℕ) (head : Head) (is : List Instr) (t : List ℕ) (o : All Byte b) (w : IsTrace b K head is t) where
   abbrev S : ℕ
@@ -62,24 +109,13 @@ module _ (b : List ℕ) (K : ℕ) (head : Head) (is : List Instr) (t : List ℕ)
   asks : (s : List ℕ) (us : List Stmt) → readTrace s ≡ Accepted (traceHead S) us → StmtsOk S (atFirst (traceHead S)) us
       → ((v : List ℕ) → unsafe ((run is K v) .outcome) ≡ unsafe (judge us (envOf v))) → Asks b K s
   asks s us a k e = record {
-    written = λ room h. script-done s (traceHead S) us a room (subst (λ c. length (textOf c) ≤ room) is-script h);
-    text = λ room done. script-bytes s (traceHead S) us a room done ∙ ap textOf (sym is-script);
-    satisfiable = (λ m. (inputsOf S (m .0), found (m .0) (m .1) (m .2)), λ m. solved (m .0) (m .1));
-    solution = λ τ ws q. subst (λ n. Fails b K (inputsOf n τ)) (sym inputs) (found τ ws q);
+    written = λ room h. script-done s (traceHead S) us a room (subst (λ c. length (textOf c) ≤ room) (is-script s (traceHead S) us a) h);
+    asks = asks-for s (traceHead S) us a (Fails b K)
+        (λ τ ws q.
+        fails (inputsOf S τ) (inputs-length τ 0 S) (inputs-words τ 0 S ws)
+        (e (inputsOf S τ) ∙ model-violates (traceHead S) us k τ ws q))
+        (λ v f. sat-iff (traceHead S) us k .1 (v, f .inputs ∙ inputs, f .words, sym (e v) ∙ failed v f));
   }
-    where
-      is-script : askedBy s ≡ scriptOf S us
-      is-script = ap₂ scriptOf (trace-inputs s (traceHead S) us a) (ap listed a)
-
-      found : (τ : Env) → OfWords τ → satisfies τ (askedBy s) ≡ true → Fails b K (inputsOf S τ)
-      found τ ws q =
-          fails (inputsOf S τ) (inputs-length τ 0 S) (inputs-words τ 0 S ws)
-          (e (inputsOf S τ) ∙ model-violates (traceHead S) us k τ ws (subst (λ c. satisfies τ c ≡ true) is-script q))
-
-      solved : (v : List ℕ) → Fails b K v → (τ : Env) × OfWords τ × (satisfies τ (askedBy s) ≡ true)
-      solved v f =
-          let m = sat-iff (traceHead S) us k .1 (v, f .inputs ∙ inputs, f .words, sym (e v) ∙ failed v f) in
-          (m .0, m .1, subst (λ c. satisfies (m .0) c ≡ true) (sym is-script) (m .2))
 
   written-ok : StmtsOk S (atFirst (traceHead S)) ts
   written-ok =

@@ -18,7 +18,7 @@ use Rattle.script.specs.Answer.{ScriptWritten}
 use Rattle.show.specs.declared.Answer as Shown
 use Rattle.show.specs.Answer.{SliceShown}
 use Rattle.kadvitul.specs.Interface.{VersionGives, RunNumber, RunGives, JudgeNumber, JudgeGives, TraceNumber, TraceGives, SliceNumber}
-use Rattle.kadvitul.specs.Interface.{SliceGives}
+use Rattle.kadvitul.specs.Interface.{SliceGives, ScriptNumber, ScriptGives}
 use Rattle.demands.specs.Replies.{Call, Demand1}
 
 -- ---- demand 1 leaves no choice
@@ -91,3 +91,8 @@ trace-gives-determined which table K out o o′ r r′ h k = (h .number ∙ sym 
 pub slice-gives-determined : (which : SliceNumber) (trace out o o′ : List ℕ) (r r′ : ℕ)
     → SliceGives which trace out o r → SliceGives which trace out o′ r′ → (r ≡ r′) × (o ≡ o′)
 slice-gives-determined which trace out o o′ r r′ h k = (h .number ∙ sym (k .number), h .buffer ∙ sym (k .buffer))
+
+-- `kadvitul_script_*`
+pub script-gives-determined : (which : ScriptNumber) (trace out o o′ : List ℕ) (r r′ : ℕ)
+    → ScriptGives which trace out o r → ScriptGives which trace out o′ r′ → (r ≡ r′) × (o ≡ o′)
+script-gives-determined which trace out o o′ r r′ h k = (h .number ∙ sym (k .number), h .buffer ∙ sym (k .buffer))

@@ -11,12 +11,15 @@ use Rattle.unwind.specs.declared.Answer as Written
 use Rattle.unwind.specs.Answer.{traceAnswer, TraceWritten}
 use Rattle.slice.specs.declared.Answer as Kept
 use Rattle.slice.specs.Answer.{sliceAnswer, SliceWritten}
-use Rattle.kadvitul.specs.Interface.{TraceNumber, TraceGives, SliceNumber, SliceGives}
+use Rattle.script.specs.declared.Answer as Exported
+use Rattle.script.specs.Answer.{scriptAnswer, ScriptWritten}
+use Rattle.kadvitul.specs.Interface.{TraceNumber, TraceGives, SliceNumber, SliceGives, ScriptNumber, ScriptGives}
 use Rattle.demands.specs.Valuation.{Handed, ranWith, judgedWith}
-use Rattle.demands.specs.Replies.{Run, Judge, WriteTrace, SliceTrace, Demand1}
-use Rattle.demands.specs.Refusals.{RunRest, JudgeRest, TraceRest, SliceRest, TraceGivesRest, SliceGivesRest}
+use Rattle.demands.specs.Replies.{Run, Judge, WriteTrace, SliceTrace, WriteScript, Demand1}
+use Rattle.demands.specs.Refusals.{RunRest, JudgeRest, TraceRest, SliceRest, ScriptRest, TraceGivesRest, SliceGivesRest}
+use Rattle.demands.specs.Refusals.{ScriptGivesRest}
 use Rattle.demands.specs.Demand3.{Demand3}
-use Rattle.demands.specs.Solver.{Solver}
+use Rattle.demands.specs.Solver.{Posed, Solver}
 
 pub record Promised : Type 0 where
   -- demand 1: a numbered refusal exactly when its row is the first that holds
@@ -28,16 +31,23 @@ pub record Promised : Type 0 where
       ((traceAnswer t K room) .offset)
   pub slice-replies : (t : List ℕ) (room : ℕ) → All Byte t → Demand1 (SliceTrace t room) ((sliceAnswer t room) .reply)
       ((sliceAnswer t room) .offset)
+  pub script-replies : (t : List ℕ) (room : ℕ) → All Byte t → Demand1 (WriteScript t room) ((scriptAnswer t room) .reply)
+      ((scriptAnswer t room) .offset)
   -- demand 1: what a refusal leaves
   pub run-rest : (h : Handed) (t : List ℕ) (K : ℕ) (v : List ℕ) → RunRest (ranWith h t K v)
   pub judge-rest : (h : Handed) (t v : List ℕ) → JudgeRest (judgedWith h t v)
   pub trace-rest : (t : List ℕ) (K : ℕ) (out out′ : List ℕ) (r : Written.Answer) → TraceWritten t K out out′ r → TraceRest out out′ r
   pub slice-rest : (t out out′ : List ℕ) (r : Kept.Answer) → SliceWritten t out out′ r → SliceRest out out′ r
+  pub script-rest : (t out out′ : List ℕ) (r : Exported.Answer) → ScriptWritten t out out′ r → ScriptRest out out′ r
   pub trace-gives-rest : (which : TraceNumber) (t : List ℕ) (K : ℕ) (out out′ : List ℕ) (r : ℕ) → TraceGives which t K out out′ r
       → TraceGivesRest (traceAnswer t K (length out)) out out′
   pub slice-gives-rest : (which : SliceNumber) (t out out′ : List ℕ) (r : ℕ) → SliceGives which t out out′ r
       → SliceGivesRest (sliceAnswer t (length out)) out out′
+  pub script-gives-rest : (which : ScriptNumber) (t out out′ : List ℕ) (r : ℕ) → ScriptGives which t out out′ r
+      → ScriptGivesRest (scriptAnswer t (length out)) out out′
   -- demand 3, for every table and bound for which the trace is written; demand 2 is the calls' contracts, `Determined` and `Marked`
   pub demand3 : (b : List ℕ) (K room : ℕ) → All Byte b → (traceAnswer b K room) .reply ≡ 0 → Demand3 b K ((traceAnswer b K room) .bytes)
-  -- request 2026-02: what a solver answers to the script of that trace, or of its slice, is whether the rule fails within the bound
+  -- request 2026-02: what a solver answers to the script of a trace is whether some inputs make the trace unsafe
+  pub posed : (t : List ℕ) (room : ℕ) → All Byte t → (scriptAnswer t room) .reply ≡ 0 → Posed t
+  -- and what a solver answers to the script of that trace, or of its slice, is whether the rule fails within the bound
   pub solver : (b : List ℕ) (K room : ℕ) → All Byte b → (traceAnswer b K room) .reply ≡ 0 → Solver b K ((traceAnswer b K room) .bytes)

@@ -23,6 +23,7 @@ use Rattle.table.specs.Table.{isTable, readTable}
 use Rattle.trace.specs.Trace.{isTrace, tellsBound, readTrace, traceHead, encodeTrace}
 use Rattle.unwind.specs.Unwind.{unwind}
 use Rattle.slice.specs.Slice.{slice}
+use Rattle.script.specs.ScriptText.{scriptText}
 use Rattle.demands.specs.Valuation.{Handed, lengthFor}
 
 -- ---- where things stand
@@ -113,18 +114,21 @@ pub data Call : Type 0 where
   Judge : Handed → (trace valuation : List ℕ) → Call
   WriteTrace : (table : List ℕ) (K room : ℕ) → Call
   SliceTrace : (trace : List ℕ) (room : ℕ) → Call
+  WriteScript : (trace : List ℕ) (room : ℕ) → Call
 
 abbrev pub fileOf : Call → File
 fileOf (Run h t K v) = Table
 fileOf (Judge h t v) = Trace
 fileOf (WriteTrace t K room) = Table
 fileOf (SliceTrace t room) = Trace
+fileOf (WriteScript t room) = Trace
 
 abbrev pub bytesOf : Call → List ℕ
 bytesOf (Run h t K v) = t
 bytesOf (Judge h t v) = t
 bytesOf (WriteTrace t K room) = t
 bytesOf (SliceTrace t room) = t
+bytesOf (WriteScript t room) = t
 
 -- the rows, those of a record with the record's number
 pub data Row : Type 0 where
@@ -167,6 +171,7 @@ result (Run h t K v) = []
 result (Judge h t v) = []
 result (WriteTrace t K room) = encodeTrace (traceHead (headerInputs t)) (unwind Outcome.Bound (headerInputs t) (listed (readTable t)) K)
 result (SliceTrace t room) = encodeTrace (headOf t) (slice (listed (readTrace t)))
+result (WriteScript t room) = scriptText (headerInputs t) (listed (readTrace t))
 
 -- when a row holds
 abbrev pub When : Call → Row → Type 0
@@ -183,19 +188,23 @@ When (Run h t K v) Bound = 255 < K
 When (Judge h t v) Bound = ⊥
 When (WriteTrace t K room) Bound = 255 < K
 When (SliceTrace t room) Bound = ⊥
+When (WriteScript t room) Bound = ⊥
 When (Run h t K v) Size = ⊥
 When (Judge h t v) Size = ⊥
 When (WriteTrace t K room) Size =
     (length (unwind Outcome.Bound (headerInputs t) (listed (readTable t)) K) ≤ 4096) × (length (result (WriteTrace t K room)) ≤ 65535) → ⊥
 When (SliceTrace t room) Size = ⊥
+When (WriteScript t room) Size = ⊥
 When (Run h t K v) Room = ⊥
 When (Judge h t v) Room = ⊥
 When (WriteTrace t K room) Room = room < length (result (WriteTrace t K room))
 When (SliceTrace t room) Room = room < length (result (SliceTrace t room))
+When (WriteScript t room) Room = room < length (result (WriteScript t room))
 When (Run h t K v) Valuation = length v ≡ lengthFor h (headerInputs t) → ⊥
 When (Judge h t v) Valuation = length v ≡ lengthFor h (headerInputs t) → ⊥
 When (WriteTrace t K room) Valuation = ⊥
 When (SliceTrace t room) Valuation = ⊥
+When (WriteScript t room) Valuation = ⊥
 
 -- the order: 1 to 4; then record after record, within each 5, 6, 7; spare bytes; then 8 and 11, or 8, 9, 10, or 11, or 10
 abbrev pub rank : (n : ℕ) → Row → ℕ

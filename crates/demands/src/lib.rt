@@ -4,6 +4,7 @@ ghost use mathlib.Core.Path.{_≡_};
 ghost use Rattle.kadvitul.specs.Interface.{runBytes, judgeBytes};
 ghost use Rattle.unwind.specs.Answer.{TraceWritten};
 ghost use Rattle.slice.specs.Answer.{SliceWritten};
+ghost use Rattle.script.specs.Answer.{ScriptWritten};
 
 fn ran(rule: &[u8], bound: u64, valuation: &[u8]) -> table::Answer
     ensures { λ r. ⌜ r ≡ runBytes (now (rule .entry)) bound (now (valuation .entry)) ⌝ }
@@ -55,5 +56,18 @@ fn sliced(trace: &[u8], out: &mut [u8]) -> slice::Answer
         length: length,
         mask: mask,
         inputs: inputs,
+    }
+}
+
+fn scripted(trace: &[u8], out: &mut [u8]) -> script::Answer
+    ensures { λ r. ⌜ ScriptWritten (now (trace .entry)) (now (out .entry)) (now (out .exit)) r ⌝ }
+{
+    let reply = kadvitul::kadvitul_script_reply(trace, &mut *out);
+    let offset = kadvitul::kadvitul_script_offset(trace, &mut *out);
+    let length = kadvitul::kadvitul_script_length(trace, &mut *out);
+    script::Answer {
+        reply: reply,
+        offset: offset,
+        length: length,
     }
 }

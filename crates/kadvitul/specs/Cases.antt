@@ -21,11 +21,15 @@ use Rattle.unwind.specs.Unwind.{unwind}
 use Rattle.unwind.specs.Answer.{traceAnswer}
 use Rattle.slice.specs.Slice.{slice}
 use Rattle.slice.specs.Answer.{sliceAnswer}
+use Rattle.script.specs.Script.{violation, scriptOf}
+use Rattle.script.specs.ScriptText.{scriptText}
+use Rattle.script.specs.Answer.{scriptAnswer}
 use Rattle.kadvitul.specs.Interface.{runBytes, judgeBytes}
 use Rattle.kadvitul.specs.Interface.{RunReply, RunOffset, RunVerdict, RunPlace, RunBackJumps, runNumber}
 use Rattle.kadvitul.specs.Interface.{JudgeReply, JudgeOffset, JudgeVerdict, JudgePlace, judgeNumber}
 use Rattle.kadvitul.specs.Interface.{TraceReply, TraceOffset, TraceLength, traceNumber}
 use Rattle.kadvitul.specs.Interface.{SliceReply, SliceOffset, SliceLength, SliceMask, SliceInputs, sliceNumber}
+use Rattle.kadvitul.specs.Interface.{ScriptReply, ScriptOffset, ScriptLength, scriptNumber}
 use Rattle.file.specs.File.{headSize, headerInputs, headerCount, inputsLimit, inputRoom, header}
 use Rattle.table.specs.Table.{isTable}
 use Rattle.trace.specs.Trace.{isTrace, traceVersion, oldVersion, tellsBound}
@@ -51,6 +55,10 @@ unfolding judgeBytes readTrace isTrace traceVersion oldVersion tellsBound readFi
 judges = (refl, refl, refl, refl, refl)
 
 -- ---- each number by its name
+
+-- no input, no statement
+abbrev emptyTrace : List ℕ
+emptyTrace = 0x82 ∷ 0x00 ∷ 0x06 ∷ 0x00 ∷ 0x00 ∷ 0x00 ∷ []
 
 -- (0) assert s0 of one input, but the record's length passes the end: refused 5 at 6
 abbrev cutTable : List ℕ
@@ -116,3 +124,11 @@ unfolding sliceAnswer readTrace isTrace traceVersion oldVersion tellsBound readF
     inputsLimit inputRoom records
     recordOf frame stmt parseFrom readToken operator fits slice encode header ones
 slice-numbers = (refl, refl)
+
+-- no input and no statement: 45 letters; and a room of 44
+script-numbers : (map (λ w. scriptNumber w (scriptAnswer emptyTrace 45)) (ScriptReply ∷ ScriptOffset ∷ ScriptLength ∷ []) ≡ 0 ∷ 0 ∷ 45 ∷ [])
+    × (map (λ w. scriptNumber w (scriptAnswer emptyTrace 44)) (ScriptReply ∷ ScriptOffset ∷ ScriptLength ∷ []) ≡ 10 ∷ 0 ∷ 0 ∷ [])
+    × (map (λ w. scriptNumber w (scriptAnswer brokenTrace 45)) (ScriptReply ∷ ScriptOffset ∷ ScriptLength ∷ []) ≡ 7 ∷ 14 ∷ 0 ∷ [])
+unfolding scriptAnswer readTrace isTrace traceVersion oldVersion tellsBound readFile headerReply headSize headerInputs headerCount
+    inputsLimit inputRoom records recordOf frame stmt parseFrom readToken operator fits violation scriptOf scriptText
+script-numbers = (refl, refl, refl)

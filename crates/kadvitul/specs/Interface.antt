@@ -20,6 +20,7 @@ use Rattle.trace.specs.Answer as Judging
 use Rattle.write.specs.Splice.{over}
 use Rattle.unwind.specs.Answer.{Traced, traceAnswer}
 use Rattle.slice.specs.Answer.{Sliced, sliceAnswer}
+use Rattle.script.specs.Answer.{Exported, scriptAnswer}
 
 abbrev pub answeredBytes : (K : ℕ) (valuation : List ℕ) → Input Instr → Answer
 answeredBytes K valuation (Refused reply offset) = refusal reply offset
@@ -42,9 +43,9 @@ judgeBytes trace valuation = judgedBytes valuation (readTrace trace)
 
 -- ---- the numbers that the calls give, one each
 
--- the archive's version, 2.0.0: 10,000 times the first number, 100 times the second, and the third
+-- the archive's version, 2.1.0: 10,000 times the first number, 100 times the second, and the third
 abbrev pub archiveVersion : ℕ
-archiveVersion = 20000
+archiveVersion = 20100
 
 pub data RunNumber : Type 0 where
   RunReply RunOffset RunVerdict RunPlace RunBackJumps : RunNumber
@@ -83,6 +84,14 @@ sliceNumber SliceLength q = length (q .bytes)
 sliceNumber SliceMask q = q .mask
 sliceNumber SliceInputs q = q .inputs
 
+pub data ScriptNumber : Type 0 where
+  ScriptReply ScriptOffset ScriptLength : ScriptNumber
+
+abbrev pub scriptNumber : ScriptNumber → Exported → ℕ
+scriptNumber ScriptReply q = q .reply
+scriptNumber ScriptOffset q = q .offset
+scriptNumber ScriptLength q = length (q .bytes)
+
 -- ---- what each call gives, and what it leaves in the buffer
 
 pub record VersionGives (r : ℕ) : Type 0 where
@@ -94,7 +103,7 @@ pub record RunGives (which : RunNumber) (table : List ℕ) (K : ℕ) (valuation 
 pub record JudgeGives (which : JudgeNumber) (trace valuation : List ℕ) (r : ℕ) : Type 0 where
   pub number : r ≡ judgeNumber which (judgeBytes trace valuation)
 
--- each call for a trace or a slice writes it: the bytes of the answer from the first byte on, and the rest as it was
+-- each call for a trace, a slice or a script writes it: the bytes of the answer from the first byte on, and the rest as it was
 pub record TraceGives (which : TraceNumber) (table : List ℕ) (K : ℕ) (out out′ : List ℕ) (r : ℕ) : Type 0 where
   pub number : r ≡ traceNumber which (traceAnswer table K (length out))
   pub buffer : out′ ≡ over ((traceAnswer table K (length out)) .bytes) out
@@ -102,3 +111,7 @@ pub record TraceGives (which : TraceNumber) (table : List ℕ) (K : ℕ) (out ou
 pub record SliceGives (which : SliceNumber) (trace out out′ : List ℕ) (r : ℕ) : Type 0 where
   pub number : r ≡ sliceNumber which (sliceAnswer trace (length out))
   pub buffer : out′ ≡ over ((sliceAnswer trace (length out)) .bytes) out
+
+pub record ScriptGives (which : ScriptNumber) (trace out out′ : List ℕ) (r : ℕ) : Type 0 where
+  pub number : r ≡ scriptNumber which (scriptAnswer trace (length out))
+  pub buffer : out′ ≡ over ((scriptAnswer trace (length out)) .bytes) out

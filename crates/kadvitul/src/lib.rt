@@ -5,6 +5,7 @@ ghost use Prim.Native.Nat.{_+_, _/_, _*_};
 ghost use lib.ListN.{length};
 ghost use Rattle.file.specs.File.{inputRoom};
 ghost use Rattle.kadvitul.specs.Interface.{runBytes, judgeBytes, VersionGives, RunGives, JudgeGives, TraceGives, SliceGives};
+ghost use Rattle.kadvitul.specs.Interface.{ScriptGives, ScriptReply, ScriptOffset, ScriptLength};
 ghost use Rattle.kadvitul.specs.Interface.{RunReply, RunOffset, RunVerdict, RunPlace, RunBackJumps};
 ghost use Rattle.kadvitul.specs.Interface.{JudgeReply, JudgeOffset, JudgeVerdict, JudgePlace};
 ghost use Rattle.kadvitul.specs.Interface.{TraceReply, TraceOffset, TraceLength};
@@ -53,7 +54,7 @@ fn judge_bytes(trace: &[u8], valuation: &[u8]) -> trace::Answer
 pub extern "C" fn kadvitul_version() -> u32
     ensures { λ r. ⌜ VersionGives r ⌝ }
 {
-    20000
+    20100
 }
 
 #[no_mangle]
@@ -190,4 +191,28 @@ pub extern "C" fn kadvitul_slice_inputs(trace: &[u8], out: &mut [u8]) -> u32
 {
     let a = slice::slice_trace(trace, out);
     a.inputs
+}
+
+#[no_mangle]
+pub extern "C" fn kadvitul_script_reply(trace: &[u8], out: &mut [u8]) -> u32
+    ensures { λ r. ⌜ ScriptGives ScriptReply (now (trace .entry)) (now (out .entry)) (now (out .exit)) r ⌝ }
+{
+    let a = script::write_script(trace, out);
+    a.reply
+}
+
+#[no_mangle]
+pub extern "C" fn kadvitul_script_offset(trace: &[u8], out: &mut [u8]) -> u32
+    ensures { λ r. ⌜ ScriptGives ScriptOffset (now (trace .entry)) (now (out .entry)) (now (out .exit)) r ⌝ }
+{
+    let a = script::write_script(trace, out);
+    a.offset
+}
+
+#[no_mangle]
+pub extern "C" fn kadvitul_script_length(trace: &[u8], out: &mut [u8]) -> u32
+    ensures { λ r. ⌜ ScriptGives ScriptLength (now (trace .entry)) (now (out .entry)) (now (out .exit)) r ⌝ }
+{
+    let a = script::write_script(trace, out);
+    a.length
 }

@@ -13,8 +13,9 @@ use Rattle.expr.specs.Number.{Byte}
 use Rattle.expr.specs.Word.{Word}
 use Rattle.expr.specs.Eval.{Env, envOf}
 use Rattle.file.specs.OutcomeLaws.{unsafe-verdict}
-use Rattle.file.specs.File.{Head, Accepted}
+use Rattle.file.specs.File.{Head, Input, Accepted, Refused}
 use Rattle.trace.specs.Trace.{Stmt, readTrace}
+use Rattle.trace.specs.TraceLaws.{trace-refused-positive}
 use Rattle.trace.specs.WellFormed.{trace-ok}
 use Rattle.trace.specs.Judge.{judge}
 use Rattle.trace.specs.Answer as Judging
@@ -27,6 +28,16 @@ use Rattle.script.specs.Scope.{WellScoped}
 use Rattle.script.specs.ScopeLaws.{script-scoped}
 use Rattle.script.specs.ScriptText.{textOf, scriptText}
 use Rattle.script.specs.Answer.{exported, refusal, answered, scriptAnswer}
+
+-- a script is written of an accepted trace alone
+pub script-accepted : (s : List ℕ) (room : ℕ) → (scriptAnswer s room) .reply ≡ 0
+    → (head : Head) × (ts : List Stmt) × (readTrace s ≡ Accepted head ts)
+unfolding scriptAnswer
+script-accepted s room done = go (readTrace s) refl
+  where
+    go : (i : Input Stmt) → readTrace s ≡ i → (head : Head) × (ts : List Stmt) × (readTrace s ≡ Accepted head ts)
+    go (Accepted head ts) e = (head, ts, e)
+    go (Refused r at) e = absurd (omega (arith, trace-refused-positive s r at e, ap (λ i. (answered room i) .reply) e, done))
 
 module _ (s : List ℕ) (head : Head) (ts : List Stmt) (is : readTrace s ≡ Accepted head ts) where
   abbrev S : ℕ

@@ -29,11 +29,11 @@ use Rattle.file.specs.Outcome.{Kind, Assert, Failed, unsafe, placeOf}
 use Rattle.file.specs.OutcomeLaws.{unsafe-is}
 use Rattle.file.specs.File.{Head, inputsLimit, headerVersion, Input, Accepted, Refused, recordBytes, recordsBytes}
 use Rattle.file.specs.EncodeLaws.{encode-length}
-use Rattle.file.specs.FileLaws.{header-is, file-is, file-refused-positive}
+use Rattle.file.specs.FileLaws.{header-is, file-is}
 use Rattle.file.specs.ReadingLaws.{short}
-use Rattle.trace.specs.Trace.{Stmt, Assign, Test, Seen, atFirst, see, stmt, stmts, isTrace, readTrace, stmtBytes, encodeTrace}
+use Rattle.trace.specs.Trace.{Stmt, Assign, Test, Seen, atFirst, see, stmts, isTrace, readTrace, stmtBytes, encodeTrace}
 use Rattle.trace.specs.Trace.{readsTrace}
-use Rattle.trace.specs.TraceLaws.{Told, stmt-low}
+use Rattle.trace.specs.TraceLaws.{Told, trace-refused-positive}
 use Rattle.trace.specs.WellFormed.{StmtsOk, trace-ok}
 use Rattle.trace.specs.EncodeLaws.{encode-read, read-encode}
 use Rattle.trace.specs.Judge.{judge}
@@ -284,13 +284,6 @@ slice-slice (t ∷ ts) = go (keep t ts (slice ts)) refl (slice-slice ts)
     go true q ih = ap (keptBefore t (slice ts)) ih ∙ ap (λ b. cond b (t ∷ slice ts) (slice ts)) (slice-keep t ts (slice ts) ∙ q)
     go false q ih = ih
 
--- a refusal's reply is not 0
-refused-positive : (s : List ℕ) (r at : ℕ) → readTrace s ≡ Refused r at → 0 < r
-unfolding readTrace
-refused-positive s =
-    file-refused-positive isTrace 4096 (λ head n. stmt (head .inputs + 4096)) see atFirst
-    (λ head n. stmt-low (head .inputs + 4096)) s
-
 -- slicing a slice's bytes answers as slicing the trace's
 pub slice-again : (s : List ℕ) (room : ℕ) → All Byte s → (sliceAnswer s room) .reply ≡ 0 → sliceAnswer ((sliceAnswer s room) .bytes) room
     ≡ sliceAnswer s room
@@ -298,7 +291,7 @@ unfolding sliceAnswer
 slice-again s room o h = go (readTrace s) refl h
   where
     go : (i : Input Stmt) → readTrace s ≡ i → (answered room i) .reply ≡ 0 → sliceAnswer ((answered room i) .bytes) room ≡ answered room i
-    go (Refused r at) q h = absurd (omega (arith, refused-positive s r at q))
+    go (Refused r at) q h = absurd (omega (arith, trace-refused-positive s r at q))
     go (Accepted head ts) q h = sliced (leb (length (encodeTrace head (slice ts))) room) refl h
       where
         sliced : (b : Bool) → leb (length (encodeTrace head (slice ts))) room ≡ b

@@ -15,12 +15,12 @@ use Rattle.expr.specs.Token.{Token}
 use Rattle.expr.specs.Expr.{readable, Whole, parse}
 use Rattle.expr.specs.ExprLaws.{parse-more}
 use Rattle.file.specs.Outcome.{Kind, Assume, Assert, Bound}
-use Rattle.file.specs.File.{Head, inputRoom, headerInputs, headOf, Body, Good, Bad, field, frame, Read, recordOf, Accepted}
+use Rattle.file.specs.File.{Head, inputRoom, headerInputs, headOf, Body, Good, Bad, field, frame, Read, recordOf, Accepted, Refused}
 use Rattle.file.specs.Shown.{offsetsFrom}
 use Rattle.file.specs.FileLaws.{Low, holding-low, cond-low, framed, record-framed, record-good, next-record, records-chain, file-is}
-use Rattle.file.specs.FileLaws.{field-there, field-good, rule-good, holding-good}
+use Rattle.file.specs.FileLaws.{file-refused-positive, field-there, field-good, rule-good, holding-good}
 use Rattle.trace.specs.Trace.{Stmt, Assign, Test, Seen, see, assign, assignAt, testAt, stmt, stmtsFrom, stmts, isTrace, readTrace}
-use Rattle.trace.specs.Trace.{kindCode}
+use Rattle.trace.specs.Trace.{atFirst, kindCode}
 use Rattle.trace.specs.Shown.{knownTest, symbolRoom, loose}
 
 -- ---- a record by its kind
@@ -264,3 +264,10 @@ trace-head t head ts q = file-is isTrace 4096 stmts t head ts q .is
 
 pub trace-inputs : (t : List ℕ) (head : Head) (ts : List Stmt) → readTrace t ≡ Accepted head ts → headerInputs t ≡ head .inputs
 trace-inputs t head ts q = ap (λ h. h .inputs) (trace-head t head ts q)
+
+-- a refused trace's reply is not 0
+pub trace-refused-positive : (s : List ℕ) (r at : ℕ) → readTrace s ≡ Refused r at → 0 < r
+unfolding readTrace
+trace-refused-positive s =
+    file-refused-positive isTrace 4096 (λ head n. stmt (head .inputs + 4096)) see atFirst
+    (λ head n. stmt-low (head .inputs + 4096)) s
