@@ -1,4 +1,5 @@
 -- All that is promised, from the theorems beside this file.
+use Rattle.script.specs.RoomLaws as Room
 use Rattle.demands.specs.Promised.{Promised}
 use Rattle.demands.proofs.RepliesProof.{run-demand1, judge-demand1, write-trace-demand1, slice-trace-demand1, write-script-demand1}
 use Rattle.demands.proofs.RefusalsProof as Rest
@@ -21,6 +22,7 @@ promised = record {
   slice-gives-rest = Rest.slice-gives-rest;
   script-gives-rest = Rest.script-gives-rest;
   demand3 = Third.demand3;
+  script-room = Room.script-room;
   posed = Asked.posed;
   solver = Asked.solver;
 }

@@ -1,7 +1,7 @@
 -- What the user has been promised, as one list. Each line is a theorem on bytes, over the answers that the calls are proved to give;
 -- `proofs/Promised.antt` proves it. With the contracts of the calls, this page and the definitions that it names are what a reader
 -- believes.
-use Prim.Native.Nat.{ℕ}
+use Prim.Native.Nat.{ℕ, _≤_}
 use mathlib.Core.Path.{_≡_}
 use mathlib.Core.List.{List}
 use lib.ListN.{length}
@@ -47,7 +47,9 @@ pub record Promised : Type 0 where
       → ScriptGivesRest (scriptAnswer t (length out)) out out′
   -- demand 3, for every table and bound for which the trace is written; demand 2 is the calls' contracts, `Determined` and `Marked`
   pub demand3 : (b : List ℕ) (K room : ℕ) → All Byte b → (traceAnswer b K room) .reply ≡ 0 → Demand3 b K ((traceAnswer b K room) .bytes)
-  -- request 2026-02: what a solver answers to the script of a trace is whether some inputs make the trace unsafe
+  -- request 2026-02: a buffer of four million bytes, the header's KADVITUL_SCRIPT_ROOM, holds the script of every trace
+  pub script-room : (t : List ℕ) (room : ℕ) → All Byte t → 4000000 ≤ room → (scriptAnswer t room) .reply ≡ 10 → ⊥
+  -- what a solver answers to the script of a trace is whether some inputs make the trace unsafe
   pub posed : (t : List ℕ) (room : ℕ) → All Byte t → (scriptAnswer t room) .reply ≡ 0 → Posed t
   -- and what a solver answers to the script of that trace, or of its slice, is whether the rule fails within the bound
   pub solver : (b : List ℕ) (K room : ℕ) → All Byte b → (traceAnswer b K room) .reply ≡ 0 → Solver b K ((traceAnswer b K room) .bytes)

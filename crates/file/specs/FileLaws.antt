@@ -147,9 +147,9 @@ module _ (F : File) (may : ℕ → Bool) (from : ℕ) (body : List ℕ) where
       go (Whole e) h = absurd (let z : _≡_ {A = ℕ} 0 1 = cc in omega arith)
       go (Breaks bs) h = refl
 
--- the records' reply is not 0
+-- so have the records
 pub stop-low : {A St : Type 0} (one : St → List ℕ → Body A) (next : St → A → St) → ((σ : St) (bs : List ℕ) → Low (one σ bs))
-    → (c : ℕ) (σ : St) (bs : List ℕ) (r : ℕ) (rest : List ℕ) → records one next c σ bs ≡ Stop r rest → 0 < r
+    → (c : ℕ) (σ : St) (bs : List ℕ) (r : ℕ) (rest : List ℕ) → records one next c σ bs ≡ Stop r rest → (5 ≤ r) × (r ≤ 7)
 unfolding records
 stop-low one next low zero σ [] r rest e = absurd (let z : _≡_ {A = ℕ} 0 1 = cc in omega arith)
 stop-low one next low zero σ (b ∷ bs) r rest e = let z : 5 ≡ r = cc in omega arith
@@ -157,13 +157,15 @@ stop-low {A = A} one next low (suc c) σ bs r rest e =
     go (recordOf (one σ) bs) (record-low (one σ) (low σ) bs) e (λ a. stop-low one next low c (next σ a) (drop (2 + frame bs) bs))
   where
     on : (a : A) (p : Records A) → records one next c (next σ a) (drop (2 + frame bs) bs) ≡ p → before a p ≡ Stop r rest
-        → ((q : ℕ) (xs : List ℕ) → records one next c (next σ a) (drop (2 + frame bs) bs) ≡ Stop q xs → 0 < q) → 0 < r
+        → ((q : ℕ) (xs : List ℕ) → records one next c (next σ a) (drop (2 + frame bs) bs) ≡ Stop q xs → (5 ≤ q) × (q ≤ 7))
+        → (5 ≤ r) × (r ≤ 7)
     on a (Read xs) f e ih = absurd (let z : _≡_ {A = ℕ} 0 1 = cc in omega arith)
     on a (Stop q xs) f e ih = let z : q ≡ r = cc in omega (arith, ih q xs f)
 
     go : (x : Body A) → Low x → onRecord bs x (λ a. records one next c (next σ a) (drop (2 + frame bs) bs)) ≡ Stop r rest
-        → ((a : A) (q : ℕ) (xs : List ℕ) → records one next c (next σ a) (drop (2 + frame bs) bs) ≡ Stop q xs → 0 < q) → 0 < r
-    go (Bad q) l e ih = let z : q ≡ r = cc in omega (arith, l .0)
+        → ((a : A) (q : ℕ) (xs : List ℕ) → records one next c (next σ a) (drop (2 + frame bs) bs) ≡ Stop q xs → (5 ≤ q) × (q ≤ 7))
+        → (5 ≤ r) × (r ≤ 7)
+    go (Bad q) l e ih = let z : q ≡ r = cc in omega (arith, l .0, l .1)
     go (Good a) l e ih = on a (records one next c (next σ a) (drop (2 + frame bs) bs)) refl e (ih a)
 
 -- ---- record after record, at an offset
@@ -347,6 +349,19 @@ module _ (known : ℕ → Bool) (limit : ℕ) (s : List ℕ) where
             count = leb-true (headerCount s) limit (k .1);
           }
 
+  pub header-low : headerReply known limit s ≤ 4
+  unfolding headerReply
+  header-low =
+      go (leb (headerSize s) (length s)) (known (headerVersion s)) (eqb (headerTotal s) (length s))
+      (leb (headerInputs s) (inputsLimit (headerVersion s)) && leb (headerCount s) limit)
+    where
+      go : (a b c d : Bool) → cond a (cond b (cond c (cond d 0 4) 3) 2) 1 ≤ 4
+      go false b c d = omega arith
+      go true false c d = omega arith
+      go true true false d = omega arith
+      go true true true false = omega arith
+      go true true true true = omega arith
+
   pub header-right : Header known limit s → headerReply known limit s ≡ 0
   unfolding headerReply
   header-right h =
@@ -403,32 +418,32 @@ module _ {A : Type 0} (known : ℕ → Bool) (limit : ℕ) (body : (head : Head)
           absurd (let z = sym h ∙ file-refused (headerReply known limit s) refl (eqb-false (headerReply known limit s) 0 e) in
           let y : _≡_ {A = ℕ} 0 1 = cc in omega arith)
 
--- a refused file's reply is not 0
+-- a refused file's reply is 1 to 7
 module _ {A St : Type 0} (known : ℕ → Bool) (limit : ℕ) (one : (head : Head) (n : ℕ) → St → List ℕ → Body A) (next : St → A → St)
     (first : (head : Head) → St) (low : (head : Head) (n : ℕ) (σ : St) (bs : List ℕ) → Low (one head n σ bs)) (s : List ℕ) where
   abbrev body : (head : Head) (n : ℕ) → List ℕ → Records A
   body head n bs = records (one head n) next n (first head) bs
 
-  pub file-refused-positive : (r at : ℕ) → readFile known limit body s ≡ Refused r at → 0 < r
-  file-refused-positive r at h = go (eqb (headerReply known limit s) 0) refl
+  pub file-refused-low : (r at : ℕ) → readFile known limit body s ≡ Refused r at → (0 < r) × (r ≤ 7)
+  file-refused-low r at h = go (eqb (headerReply known limit s) 0) refl
     where
       n : ℕ
       n = headerCount s
 
-      done : (p : Records A) → body (headOf s) n (afterHeader s) ≡ p → finish (length s) (headOf s) p ≡ Refused r at → 0 < r
+      done : (p : Records A) → body (headOf s) n (afterHeader s) ≡ p → finish (length s) (headOf s) p ≡ Refused r at → (0 < r) × (r ≤ 7)
       done (Read xs) q e = absurd (let z : _≡_ {A = ℕ} 0 1 = cc in omega arith)
       done (Stop k bs) q e =
           let z : k ≡ r = cc in
           omega (arith, stop-low (one (headOf s) n) next (low (headOf s) n) n (first (headOf s)) (afterHeader s) k bs q)
 
-      go : (x : Bool) → eqb (headerReply known limit s) 0 ≡ x → 0 < r
+      go : (x : Bool) → eqb (headerReply known limit s) 0 ≡ x → (0 < r) × (r ≤ 7)
       go true e =
           done (body (headOf s) n (afterHeader s)) refl (sym (file-read known limit body s (eqb-true (headerReply known limit s) 0 e)) ∙ h)
       go false e =
           let some : headerReply known limit s ≡ 0 → ⊥ = eqb-false (headerReply known limit s) 0 e in
           let f = sym (file-refused known limit body s (headerReply known limit s) refl some) ∙ h in
           let z : headerReply known limit s ≡ r = cc in
-          omega (arith, some)
+          omega (arith, some, header-low known limit s)
 
 -- ---- where records stand
 

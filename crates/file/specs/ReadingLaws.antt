@@ -19,7 +19,7 @@ use Rattle.file.specs.Shown.{readCount, readingOf, offsetsFrom, offsetsI
 use Rattle.file.specs.Shown.{ReadFile, Ready}
 use Rattle.file.specs.FileLaws.{head-short, Low, reading-offset, records-chain, count-all, Header, header-is, file-refused, file-read}
 use Rattle.file.specs.FileLaws.{file-is}
-use Rattle.file.specs.FileLaws.{file-refused-positive, offsets-length, sets-at}
+use Rattle.file.specs.FileLaws.{file-refused-low, offsets-length, sets-at}
 use Rattle.file.specs.declared.Reading.{Reading}
 
 pub total-small : (s : List ℕ) → All Byte s → headerTotal s < 65536
@@ -137,7 +137,7 @@ module _ {A St : Type 0} (known : ℕ → Bool) (limit : ℕ) (one : (head : Hea
           go : (x : Input A) → file ≡ x → r ≡ fileReading count x → Accepts
           go (Refused k at) e q =
               absurd (let z : r .reply ≡ k = ap (λ r. r .reply) q in
-              omega (arith, file-refused-positive known limit one next first low s k at e))
+              omega (arith, file-refused-low known limit one next first low s k at e))
           go (Accepted other xs) e q =
               let f = file-is known limit body s other xs e in
               let i : other ≡ head = sym (f .is) in

@@ -15,7 +15,7 @@ use Rattle.expr.specs.Eval.{Env, envOf}
 use Rattle.file.specs.OutcomeLaws.{unsafe-verdict}
 use Rattle.file.specs.File.{Head, Input, Accepted, Refused}
 use Rattle.trace.specs.Trace.{Stmt, readTrace}
-use Rattle.trace.specs.TraceLaws.{trace-refused-positive}
+use Rattle.trace.specs.TraceLaws.{trace-refused-low}
 use Rattle.trace.specs.WellFormed.{trace-ok}
 use Rattle.trace.specs.Judge.{judge}
 use Rattle.trace.specs.Answer as Judging
@@ -37,7 +37,7 @@ script-accepted s room done = go (readTrace s) refl
   where
     go : (i : Input Stmt) → readTrace s ≡ i → (head : Head) × (ts : List Stmt) × (readTrace s ≡ Accepted head ts)
     go (Accepted head ts) e = (head, ts, e)
-    go (Refused r at) e = absurd (omega (arith, trace-refused-positive s r at e, ap (λ i. (answered room i) .reply) e, done))
+    go (Refused r at) e = absurd (omega (arith, trace-refused-low s r at e, ap (λ i. (answered room i) .reply) e, done))
 
 module _ (s : List ℕ) (head : Head) (ts : List Stmt) (is : readTrace s ≡ Accepted head ts) where
   abbrev S : ℕ

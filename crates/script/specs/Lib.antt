@@ -9,6 +9,7 @@ pub mod ScopeLaws
 pub mod ScriptText
 pub mod Answer
 pub mod BytesLaws
+pub mod RoomLaws
 pub mod Cases
 -- What the code's values mean in these terms.
 pub mod Shown

@@ -14,11 +14,12 @@ use Rattle.expr.specs.Lists.{All, all-take, both-and}
 use Rattle.expr.specs.Number.{Byte}
 use Rattle.file.specs.Outcome.{Bound}
 use Rattle.file.specs.File.{Head, headerVersion, Input, Accepted, Refused}
-use Rattle.file.specs.FileLaws.{file-refused, file-is}
-use Rattle.file.specs.ReadingLaws.{short, too-long}
+use Rattle.file.specs.FileLaws.{file-refused}
+use Rattle.file.specs.ReadingLaws.{too-long}
 use Rattle.table.specs.Table.{Instr, instrs, isTable, readTable}
 use Rattle.table.specs.TableLaws.{IsTable, table-ok, table-refused-positive}
-use Rattle.trace.specs.Trace.{Stmt, stmts, isTrace, readTrace, traceHead, encodeTrace}
+use Rattle.trace.specs.Trace.{Stmt, readTrace, traceHead, encodeTrace}
+use Rattle.trace.specs.TraceLaws.{trace-short}
 use Rattle.trace.specs.EncodeLaws.{encode-read, room-written, trace-known}
 use Rattle.unwind.specs.Unwind.{unwind}
 use Rattle.unwind.specs.UnwindLaws.{unwind-ok, unwind-accepted}
@@ -125,10 +126,6 @@ trace-room b K room h = go (readTable b) refl
               sym (ap (answered K room) e) ∙ traced K b head is e (omega arith) room h
               ∙ sym (traced K b head is e (omega arith) 65535 (omega arith)) ∙ ap (answered K 65535) e
         ]
-
-trace-short : (t : List ℕ) (head : Head) (us : List Stmt) → All Byte t → readTrace t ≡ Accepted head us → length t ≤ 65535
-unfolding readTrace
-trace-short t head us o e = omega (arith, short isTrace 4096 t o (file-is isTrace 4096 stmts t head us e .header))
 
 pub slice-room : (t : List ℕ) (room : ℕ) → All Byte t → 65535 ≤ room → sliceAnswer t room ≡ sliceAnswer t 65535
 unfolding sliceAnswer

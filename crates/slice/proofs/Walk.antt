@@ -11,9 +11,8 @@ use Rattle.expr.specs.Number.{Byte}
 use Rattle.file.specs.File.{Body, Good, Input, Accepted, Refused, recordBytes, recordsBytes}
 use Rattle.file.specs.Shown.{isAccepted, listed}
 use Rattle.file.specs.EncodeLaws.{encode-length}
-use Rattle.file.specs.FileLaws.{file-is}
-use Rattle.file.specs.ReadingLaws.{short}
-use Rattle.trace.specs.Trace.{Stmt, Assign, Test, stmts, isTrace, readTrace, stmtBytes, readsTrace}
+use Rattle.trace.specs.Trace.{Stmt, Assign, Test, readTrace, stmtBytes, readsTrace}
+use Rattle.trace.specs.TraceLaws.{trace-short}
 use Rattle.trace.specs.EncodeLaws.{encode-read}
 use Rattle.slice.specs.declared.back.Kept.{Kept}
 use Rattle.trace.specs.Asserts.{isAssert, hasAssert}
@@ -27,14 +26,13 @@ use Rattle.slice.specs.Shown.{inSet, readsIn, keepStmt, keepIn, assertsI
 -- an accepted trace is its header and its records, so these are fewer than 65,536 bytes
 pub records-small : (s : List ℕ) → All Byte s → isAccepted (readTrace s) ≡ true → length (recordsBytes stmtBytes (listed (readTrace s)))
     < 65536
-unfolding readTrace
 records-small s o h = go (readTrace s) refl h
   where
     go : (i : Input Stmt) → readTrace s ≡ i → isAccepted i ≡ true → length (recordsBytes stmtBytes (listed (readTrace s))) < 65536
     go (Accepted head ts) e h =
-        let few : length s < 65536 = short isTrace 4096 s o (file-is isTrace 4096 stmts s head ts e .header) in
         omega (
           arith,
+          trace-short s head ts o e,
           ap length (encode-read s head ts o e),
           encode-length stmtBytes head ts,
           ap (λ i. length (recordsBytes stmtBytes (listed i))) e,

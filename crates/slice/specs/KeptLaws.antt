@@ -18,9 +18,8 @@ use Rattle.expr.specs.Number.{Byte, numberOf}
 use Rattle.expr.specs.NumberLaws.{number-written}
 use Rattle.file.specs.File.{Head, headSize, headerCount, afterHeader, Accepted, header, recordBytes, recordsBytes, encode}
 use Rattle.file.specs.EncodeLaws.{encode-length, encode-count, encode-after}
-use Rattle.file.specs.FileLaws.{file-is}
-use Rattle.file.specs.ReadingLaws.{short}
-use Rattle.trace.specs.Trace.{Stmt, Assign, Test, stmts, isTrace, readTrace, stmtBytes, encodeTrace, readsTrace}
+use Rattle.trace.specs.Trace.{Stmt, Assign, Test, readTrace, stmtBytes, encodeTrace, readsTrace}
+use Rattle.trace.specs.TraceLaws.{trace-short}
 use Rattle.trace.specs.WellFormed.{trace-ok}
 use Rattle.trace.specs.EncodeLaws.{encode-read}
 use Rattle.trace.specs.Asserts.{isAssert, hasAssert}
@@ -75,10 +74,9 @@ cut-records (t ∷ ts) h =
 
 pub trace-records : (t : List ℕ) (head : Head) (ts : List Stmt) → All Byte t → readTrace t ≡ Accepted head ts
     → recordsOf t ≡ map (recordBytes stmtBytes) ts
-unfolding readTrace
 trace-records t head ts o h =
     let bytes : encodeTrace head ts ≡ t = encode-read t head ts o h in
-    let few : length t < 65536 = short isTrace 4096 t o (file-is isTrace 4096 stmts t head ts h .header) in
+    let few = trace-short t head ts o h in
     let total = encode-length stmtBytes head ts in
     let limit = trace-ok t head ts o h .few in
     ap recordsOf (sym bytes)

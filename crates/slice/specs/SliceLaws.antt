@@ -33,7 +33,7 @@ use Rattle.file.specs.FileLaws.{header-is, file-is}
 use Rattle.file.specs.ReadingLaws.{short}
 use Rattle.trace.specs.Trace.{Stmt, Assign, Test, Seen, atFirst, see, stmts, isTrace, readTrace, stmtBytes, encodeTrace}
 use Rattle.trace.specs.Trace.{readsTrace}
-use Rattle.trace.specs.TraceLaws.{Told, trace-refused-positive}
+use Rattle.trace.specs.TraceLaws.{Told, trace-refused-low}
 use Rattle.trace.specs.WellFormed.{StmtsOk, trace-ok}
 use Rattle.trace.specs.EncodeLaws.{encode-read, read-encode}
 use Rattle.trace.specs.Judge.{judge}
@@ -291,7 +291,7 @@ unfolding sliceAnswer
 slice-again s room o h = go (readTrace s) refl h
   where
     go : (i : Input Stmt) → readTrace s ≡ i → (answered room i) .reply ≡ 0 → sliceAnswer ((answered room i) .bytes) room ≡ answered room i
-    go (Refused r at) q h = absurd (omega (arith, trace-refused-positive s r at q))
+    go (Refused r at) q h = absurd (omega (arith, trace-refused-low s r at q))
     go (Accepted head ts) q h = sliced (leb (length (encodeTrace head (slice ts))) room) refl h
       where
         sliced : (b : Bool) → leb (length (encodeTrace head (slice ts))) room ≡ b

@@ -20,7 +20,7 @@ use Rattle.file.specs.File.{Head, inputRoom, headerVersion, headerSize, headerI
 use Rattle.file.specs.File.{recordOf, Accepted, Refused}
 use Rattle.file.specs.Shown.{offsetsFrom}
 use Rattle.file.specs.FileLaws.{Low, holding-low, cond-low, framed, record-framed, record-good, next-record, Chain, records-chain}
-use Rattle.file.specs.FileLaws.{inputs-room, header-is, file-is, file-refused-positive, field-there, field-good, rule-good, holding-good}
+use Rattle.file.specs.FileLaws.{inputs-room, header-is, file-is, file-refused-low, field-there, field-good, rule-good, holding-good}
 use Rattle.table.specs.Table.{Instr, Assign, Test, IfThenGoto, assign, test, ifThenGoto, instr, instrsFrom, instrs}
 use Rattle.table.specs.Table.{isTable, readTable}
 
@@ -84,9 +84,9 @@ instr-low S n (k ∷ bs) =
 -- a refused table's reply is not 0
 pub table-refused-positive : (b : List ℕ) (r at : ℕ) → readTable b ≡ Refused r at → 0 < r
 unfolding readTable
-table-refused-positive b =
-    file-refused-positive {St = Unit {0}} isTable 1024 (λ head n u. instr (head .inputs) n) (λ u a. u) (λ head. tt)
-    (λ head n u. instr-low (head .inputs) n) b
+table-refused-positive b r at e =
+    file-refused-low {St = Unit {0}} isTable 1024 (λ head n u. instr (head .inputs) n) (λ u a. u) (λ head. tt)
+    (λ head n u. instr-low (head .inputs) n) b r at e .0
 
 -- ---- what a record that is read says
 

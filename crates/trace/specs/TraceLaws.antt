@@ -9,8 +9,8 @@ use lib.Seq.{length-take-le, drop-drop}
 use lib.Dec.{eqb, leb, ltb}
 use borrow.Author.Tests.{eqb-true, eqb-false, eq-eqb, ne-eqb, le-leb, leb-true, ltb-true, lt-ltb}
 use Rattle.expr.specs.declared.File.the-variants.{Trace}
-use Rattle.expr.specs.Lists.{and-both, or-cases}
-use Rattle.expr.specs.Number.{numberOf}
+use Rattle.expr.specs.Lists.{All, and-both, or-cases}
+use Rattle.expr.specs.Number.{Byte, numberOf}
 use Rattle.expr.specs.Token.{Token}
 use Rattle.expr.specs.Expr.{readable, Whole, parse}
 use Rattle.expr.specs.ExprLaws.{parse-more}
@@ -18,7 +18,8 @@ use Rattle.file.specs.Outcome.{Kind, Assume, Assert, Bound}
 use Rattle.file.specs.File.{Head, inputRoom, headerInputs, headOf, Body, Good, Bad, field, frame, Read, recordOf, Accepted, Refused}
 use Rattle.file.specs.Shown.{offsetsFrom}
 use Rattle.file.specs.FileLaws.{Low, holding-low, cond-low, framed, record-framed, record-good, next-record, records-chain, file-is}
-use Rattle.file.specs.FileLaws.{file-refused-positive, field-there, field-good, rule-good, holding-good}
+use Rattle.file.specs.FileLaws.{file-refused-low, field-there, field-good, rule-good, holding-good}
+use Rattle.file.specs.ReadingLaws.{short}
 use Rattle.trace.specs.Trace.{Stmt, Assign, Test, Seen, see, assign, assignAt, testAt, stmt, stmtsFrom, stmts, isTrace, readTrace}
 use Rattle.trace.specs.Trace.{atFirst, kindCode}
 use Rattle.trace.specs.Shown.{knownTest, symbolRoom, loose}
@@ -265,9 +266,14 @@ trace-head t head ts q = file-is isTrace 4096 stmts t head ts q .is
 pub trace-inputs : (t : List ℕ) (head : Head) (ts : List Stmt) → readTrace t ≡ Accepted head ts → headerInputs t ≡ head .inputs
 trace-inputs t head ts q = ap (λ h. h .inputs) (trace-head t head ts q)
 
--- a refused trace's reply is not 0
-pub trace-refused-positive : (s : List ℕ) (r at : ℕ) → readTrace s ≡ Refused r at → 0 < r
+-- a refused trace's reply is 1 to 7
+pub trace-refused-low : (s : List ℕ) (r at : ℕ) → readTrace s ≡ Refused r at → (0 < r) × (r ≤ 7)
 unfolding readTrace
-trace-refused-positive s =
-    file-refused-positive isTrace 4096 (λ head n. stmt (head .inputs + 4096)) see atFirst
+trace-refused-low s =
+    file-refused-low isTrace 4096 (λ head n. stmt (head .inputs + 4096)) see atFirst
     (λ head n. stmt-low (head .inputs + 4096)) s
+
+-- an accepted trace has no more bytes than its length field can say
+pub trace-short : (s : List ℕ) (head : Head) (ts : List Stmt) → All Byte s → readTrace s ≡ Accepted head ts → length s < 65536
+unfolding readTrace
+trace-short s head ts o e = short isTrace 4096 s o (file-is isTrace 4096 stmts s head ts e .header)
