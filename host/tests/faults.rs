@@ -272,45 +272,37 @@ fn a_late_byte_of_a_slice_is_noticed() {
     is_noticed_by(&checks::SLICE, "the last byte of a long buffer changed", &Liar);
 }
 
+/// Leaves the statements of a kind out of every slice.
+struct SlicesWithout(u8);
+
+impl Calls for SlicesWithout {
+    fn slice_length(&self, trace: &[u8], out: &mut [u8]) -> u32 {
+        let length = ARCHIVE.slice_length(trace, out) as usize;
+        let Some(mut parts) = Parts::of(&out[..length]) else {
+            return 0;
+        };
+        parts.records.retain(|record| record[0] != self.0);
+        let slice = parts.join();
+        out[..slice.len()].copy_from_slice(&slice);
+        slice.len() as u32
+    }
+}
+
 #[test]
 fn a_slice_without_its_assumes_is_noticed() {
-    struct Liar;
-    impl Calls for Liar {
-        fn slice_length(&self, trace: &[u8], out: &mut [u8]) -> u32 {
-            let length = ARCHIVE.slice_length(trace, out) as usize;
-            let Some(mut parts) = Parts::of(&out[..length]) else {
-                return 0;
-            };
-            parts.records.retain(|record| record[0] != ASSUME);
-            let slice = parts.join();
-            out[..slice.len()].copy_from_slice(&slice);
-            slice.len() as u32
-        }
-    }
-    is_noticed_by(&checks::SLICE, "a slice without its Assumes", &Liar);
-    is_noticed_by(&checks::SLICE_JUDGED, "a slice without its Assumes", &Liar);
-    is_noticed_by(&checks::DEMAND_3, "a slice without its Assumes", &Liar);
+    let liar = SlicesWithout(ASSUME);
+    is_noticed_by(&checks::SLICE, "a slice without its Assumes", &liar);
+    is_noticed_by(&checks::SLICE_JUDGED, "a slice without its Assumes", &liar);
+    is_noticed_by(&checks::DEMAND_3, "a slice without its Assumes", &liar);
 }
 
 #[test]
 fn a_slice_without_its_bounds_is_noticed() {
-    struct Liar;
-    impl Calls for Liar {
-        fn slice_length(&self, trace: &[u8], out: &mut [u8]) -> u32 {
-            let length = ARCHIVE.slice_length(trace, out) as usize;
-            let Some(mut parts) = Parts::of(&out[..length]) else {
-                return 0;
-            };
-            parts.records.retain(|record| record[0] != BOUND);
-            let slice = parts.join();
-            out[..slice.len()].copy_from_slice(&slice);
-            slice.len() as u32
-        }
-    }
-    is_noticed_by(&checks::SLICE, "a slice without its bounds", &Liar);
-    is_noticed_by(&checks::SLICE_JUDGED, "a slice without its bounds", &Liar);
-    is_noticed_by(&checks::OLD_JUDGED, "a slice without its bounds", &Liar);
-    is_noticed_by(&checks::DEMAND_3, "a slice without its bounds", &Liar);
+    let liar = SlicesWithout(BOUND);
+    is_noticed_by(&checks::SLICE, "a slice without its bounds", &liar);
+    is_noticed_by(&checks::SLICE_JUDGED, "a slice without its bounds", &liar);
+    is_noticed_by(&checks::OLD_JUDGED, "a slice without its bounds", &liar);
+    is_noticed_by(&checks::DEMAND_3, "a slice without its bounds", &liar);
 }
 
 #[test]
