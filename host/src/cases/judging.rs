@@ -221,6 +221,13 @@ pub fn unknown_tokens() -> Vec<KnownJudgement> {
     )
 }
 
+/// The traces that are refused, whoever reads them, each with its reply and offset.
+pub fn refused_traces() -> impl Iterator<Item = (String, Vec<u8>, (u32, u32))> {
+    let known = [refusals(), bounds(), unknown_kinds(), unknown_tokens()].into_iter().flatten();
+    let of_trace = known.filter(|known| (1..=7).contains(&known.answer.reply));
+    of_trace.map(|Known { name, case, answer }| (name, case.trace, (answer.reply, answer.offset)))
+}
+
 /// Asserts a test, then its contrary: only the second may fail.
 fn operator(name: &str, test: &[u8]) -> KnownJudgement {
     judge(name, &[assert(1, test), assert(2, &contrary(test))], unsafe_at(2))

@@ -180,9 +180,7 @@ pub fn rooms() -> Vec<KnownSlice> {
 
 /// What judging refuses for its trace, slicing refuses too.
 pub fn refusals() -> Vec<KnownSlice> {
-    let judgements = [judging::refusals(), judging::bounds(), judging::unknown_kinds(), judging::unknown_tokens()];
-    let of_trace = judgements.into_iter().flatten().filter(|known| (1..=7).contains(&known.answer.reply));
-    of_trace.map(|Known { name, case, answer }| refused(&name, &case.trace, (answer.reply, answer.offset))).collect()
+    judging::refused_traces().map(|(name, trace, refusal)| refused(&name, &trace, refusal)).collect()
 }
 
 fn slice(name: &str, inputs: u8, mask: u64, lines: &[&str]) -> KnownSlice {

@@ -64,6 +64,19 @@ pub enum Token {
     Operator(u8),
 }
 
+impl Token {
+    /// How many words it takes off the stack.
+    #[inline]
+    pub fn pops(&self) -> usize {
+        match *self {
+            Token::Constant(_) | Token::Symbol(_) => 0,
+            Token::Operator(NOT..=ZERO) => 1,
+            Token::Operator(ITE) => 3,
+            Token::Operator(_) => 2,
+        }
+    }
+}
+
 /// The token that the bytes begin with, with its operands, and what follows it.
 fn split_token<F: Form>(bytes: &[u8]) -> Option<(Token, &[u8])> {
     if let Some((symbol, rest)) = F::split_symbol(bytes) {
@@ -100,15 +113,9 @@ pub fn is_accepted<F: Form>(mut bytes: &[u8], may_read: impl Fn(usize) -> bool) 
         let Some((token, rest)) = split_token::<F>(bytes) else {
             return false;
         };
-        let pops = match token {
-            Token::Constant(_) => 0,
-            Token::Symbol(symbol) if may_read(symbol) => 0,
-            Token::Symbol(_) => return false,
-            Token::Operator(ITE) => 3,
-            Token::Operator(NOT..=ZERO) => 1,
-            Token::Operator(_) => 2,
-        };
-        if depth < pops || depth - pops == F::DEPTH_LIMIT {
+        let pops = token.pops();
+        let is_unreadable = matches!(token, Token::Symbol(symbol) if !may_read(symbol));
+        if is_unreadable || depth < pops || depth - pops == F::DEPTH_LIMIT {
             return false;
         }
         depth = depth - pops + 1;
