@@ -2,7 +2,7 @@
 
 use std::iter;
 
-use crate::model::{JudgeAnswer, RunAnswer, SliceAnswer, TraceAnswer};
+use crate::model::{JudgeAnswer, RunAnswer, ScriptAnswer, SliceAnswer, TraceAnswer};
 use crate::program::Printed;
 use crate::written::Written;
 
@@ -102,6 +102,16 @@ impl Numbers for SliceAnswer {
             ("kadvitul_slice_length", self.length.into()),
             ("kadvitul_slice_inputs", self.inputs.into()),
             ("kadvitul_slice_mask", self.mask),
+        ]
+    }
+}
+
+impl Numbers for ScriptAnswer {
+    fn numbers(&self) -> Vec<(&'static str, u64)> {
+        vec![
+            ("kadvitul_script_reply", self.reply.into()),
+            ("kadvitul_script_offset", self.offset.into()),
+            ("kadvitul_script_length", self.length.into()),
         ]
     }
 }

@@ -1,9 +1,9 @@
 //! The calls of libkadvitul.a, as include/kadvitul.h declares them, behind safe functions; and the same calls as
 //! something that tests are given, so that a test of the tests can give them another.
 
-use crate::model::{JudgeAnswer, RunAnswer, SliceAnswer, TraceAnswer};
+use crate::model::{JudgeAnswer, RunAnswer, ScriptAnswer, SliceAnswer, TraceAnswer};
 use crate::program::{self, Printed};
-use crate::written::whole;
+use crate::written::{whole, whole_within, SCRIPT_ROOM};
 
 /// Calls that are given a file, perhaps a bound, and last a valuation or a buffer to write into.
 macro_rules! calls {
@@ -122,6 +122,15 @@ impl dyn Calls + '_ {
         }
     }
 
+    /// Each call has a buffer of its own.
+    pub fn script(&self, trace: &[u8], [a, b, c]: &mut [Vec<u8>; 3]) -> ScriptAnswer {
+        ScriptAnswer {
+            reply: self.script_reply(trace, a),
+            offset: self.script_offset(trace, b),
+            length: self.script_length(trace, c),
+        }
+    }
+
     /// Empty where there is none.
     pub fn whole_trace(&self, table: &[u8], bound: u64) -> Vec<u8> {
         whole(|out| self.trace_length(table, bound, out))
@@ -130,6 +139,11 @@ impl dyn Calls + '_ {
     /// Empty where there is none.
     pub fn whole_slice(&self, trace: &[u8]) -> Vec<u8> {
         whole(|out| self.slice_length(trace, out))
+    }
+
+    /// Empty where there is none.
+    pub fn whole_script(&self, trace: &[u8]) -> Vec<u8> {
+        whole_within(SCRIPT_ROOM, |out| self.script_length(trace, out))
     }
 
     pub fn mask(&self, trace: &[u8]) -> u64 {

@@ -4,7 +4,7 @@ use std::fmt::{self, Display};
 
 use crate::answer::Answer;
 use crate::archive::{Calls, ARCHIVE};
-use crate::model::{self, JudgeAnswer, RunAnswer, SliceAnswer, TraceAnswer};
+use crate::model::{self, JudgeAnswer, RunAnswer, ScriptAnswer, SliceAnswer, TraceAnswer};
 use crate::program::Printed;
 use crate::written::{lend, Written};
 
@@ -217,9 +217,49 @@ impl Case for SliceCase {
 
 impl Display for SliceCase {
     fn fmt(&self, f: &mut fmt::Formatter) -> fmt::Result {
-        writeln!(f, "let trace = {};", array(&self.trace))?;
-        writeln!(f, "let room = {};", self.room)?;
-        write!(f, "trace in hex: {}", hex(&self.trace))
+        write_trace_and_room(f, &self.trace, self.room)
+    }
+}
+
+#[derive(Clone, Debug, PartialEq, Eq)]
+pub struct ScriptCase {
+    pub trace: Vec<u8>,
+    pub room: usize,
+}
+
+impl Case for ScriptCase {
+    const NAME: &'static str = "script";
+
+    type Answer = Written<ScriptAnswer>;
+
+    fn model(&self) -> Written<ScriptAnswer> {
+        let mut outs = lend(self.room);
+        let answer = model::script(&self.trace, &mut outs[0]);
+        Written::new::<1>(answer, outs)
+    }
+
+    fn ask(&self, calls: &dyn Calls) -> Written<ScriptAnswer> {
+        let mut outs = lend(self.room);
+        let answer = calls.script(&self.trace, &mut outs);
+        Written::new(answer, outs)
+    }
+
+    fn reply(written: &Written<ScriptAnswer>) -> u32 {
+        written.answer.reply
+    }
+
+    fn file_mut(&mut self) -> &mut Vec<u8> {
+        &mut self.trace
+    }
+
+    fn room_mut(&mut self) -> Option<&mut usize> {
+        Some(&mut self.room)
+    }
+}
+
+impl Display for ScriptCase {
+    fn fmt(&self, f: &mut fmt::Formatter) -> fmt::Result {
+        write_trace_and_room(f, &self.trace, self.room)
     }
 }
 
@@ -278,6 +318,12 @@ impl Display for PrintCase {
         writeln!(f, "let table = {};", array(&self.table))?;
         write!(f, "input in hex: {}", hex(&self.input()))
     }
+}
+
+fn write_trace_and_room(f: &mut fmt::Formatter, trace: &[u8], room: usize) -> fmt::Result {
+    writeln!(f, "let trace = {};", array(trace))?;
+    writeln!(f, "let room = {room};")?;
+    write!(f, "trace in hex: {}", hex(trace))
 }
 
 fn array(bytes: &[u8]) -> String {

@@ -1,8 +1,9 @@
-//! Cases whose answers stand in document 01, or follow from its sentences at a glance.
+//! Cases whose answers stand in document 01 or docs/SCRIPT.md, or follow from their sentences at a glance.
 
 pub mod judging;
 pub mod printing;
 pub mod running;
+pub mod scripting;
 pub mod slicing;
 pub mod traces;
 pub mod unwinding;

@@ -3,7 +3,7 @@
 use crate::agreement;
 use crate::answer::Answer;
 use crate::archive::Calls;
-use crate::case::{Case, JudgeCase, PrintCase, RunCase, SliceCase, TraceCase};
+use crate::case::{Case, JudgeCase, PrintCase, RunCase, ScriptCase, SliceCase, TraceCase};
 use crate::check::{AnyCheck, Asked, Check};
 use crate::generate;
 
@@ -18,6 +18,9 @@ pub const TRACE: Check<TraceCase> =
 
 pub const SLICE: Check<SliceCase> =
     Check { name: SliceCase::NAME, count: 40_000, speaks_of: None, generate: generate::slice_case, ask: ask_model };
+
+pub const SCRIPT: Check<ScriptCase> =
+    Check { name: ScriptCase::NAME, count: 20_000, speaks_of: None, generate: generate::script_case, ask: ask_model };
 
 /// Each case starts the program.
 pub const PRINT: Check<PrintCase> =
@@ -81,8 +84,19 @@ pub const PRINT_READ: Check<PrintCase> = Check {
 };
 
 /// The checks of the archive alone.
-pub const OF_ARCHIVE: [&dyn AnyCheck; 10] =
-    [&RUN, &JUDGE, &TRACE, &SLICE, &DEMAND_3, &WITHIN, &OLD_JUDGED, &SLICE_JUDGED, &SLICE_UNREAD, &SLICE_TWICE];
+pub const OF_ARCHIVE: [&dyn AnyCheck; 11] = [
+    &RUN,
+    &JUDGE,
+    &TRACE,
+    &SLICE,
+    &SCRIPT,
+    &DEMAND_3,
+    &WITHIN,
+    &OLD_JUDGED,
+    &SLICE_JUDGED,
+    &SLICE_UNREAD,
+    &SLICE_TWICE,
+];
 
 /// The checks of the slice printer.
 pub const OF_PROGRAM: [&dyn AnyCheck; 2] = [&PRINT, &PRINT_READ];

@@ -11,7 +11,7 @@ mod rules;
 mod traces;
 mod writing;
 
-pub use writing::{print_case, slice_case, sliced_judge_case, trace_case, unwound_run_case};
+pub use writing::{print_case, script_case, slice_case, sliced_judge_case, trace_case, unwound_run_case};
 
 use crate::case::{JudgeCase, RunCase};
 use crate::encoding;

@@ -1,5 +1,5 @@
-//! What document 01 says of tables and traces, and request 2026-01 of verdicts, in plain Rust: checked once, then run,
-//! unwound, judged or sliced in place; and how a slice is printed.
+//! What document 01 says of tables and traces, request 2026-01 of verdicts and request 2026-02 of scripts, in plain Rust:
+//! checked once, then run, unwound, judged, sliced or written as a script in place; and how a slice is printed.
 
 mod end;
 mod expression;
@@ -7,6 +7,7 @@ mod file;
 mod judging;
 mod printing;
 mod running;
+mod script;
 mod slicing;
 mod table;
 mod trace;
@@ -57,6 +58,14 @@ pub struct SliceAnswer {
     pub length: u32,
     pub inputs: u32,
     pub mask: u64,
+}
+
+/// The three numbers of writing a script, as those of writing a trace.
+#[derive(Clone, Copy, Debug, Default, PartialEq, Eq)]
+pub struct ScriptAnswer {
+    pub reply: u32,
+    pub offset: u32,
+    pub length: u32,
 }
 
 /// Runs a table under a bound; the valuation is four big-endian bytes for each input.
@@ -126,6 +135,21 @@ fn accept_and_slice(bytes: &[u8], out: &mut [u8]) -> Result<(usize, u64), Refusa
     let slice = Slice::of(&trace, &mut offsets);
     slice.write(&trace, take_room(out, slice.length)?);
     Ok((slice.length, slice.mask))
+}
+
+/// Writes the solver's script of a trace from the first byte of `out`.
+pub fn script(trace: &[u8], out: &mut [u8]) -> ScriptAnswer {
+    match accept_and_script(trace, out) {
+        Ok(length) => ScriptAnswer { length: length as u32, ..ScriptAnswer::default() },
+        Err(Refusal { number, offset }) => ScriptAnswer { reply: number, offset, ..ScriptAnswer::default() },
+    }
+}
+
+fn accept_and_script(bytes: &[u8], out: &mut [u8]) -> Result<usize, Refusal> {
+    let trace = Trace::read(bytes)?;
+    let length = script::measure(&trace);
+    script::write(&trace, take_room(out, length)?);
+    Ok(length)
 }
 
 /// The text that the slice printer gives for its input: a byte for the bound, then a table.

@@ -4,6 +4,8 @@ use std::array;
 
 /// No trace has more bytes.
 pub const LENGTH_LIMIT: usize = 65_535;
+/// No script has more letters, as include/kadvitul.h says.
+pub const SCRIPT_ROOM: usize = 4_000_000;
 
 /// An answer, and what its calls left in the buffers lent to them.
 pub struct Written<A> {
@@ -30,11 +32,17 @@ pub fn lend<const N: usize>(room: usize) -> [Vec<u8>; N] {
     array::from_fn(|_| (0..room).map(|i| (i * 89 + 0xA5) as u8).collect())
 }
 
-/// What a call that gives its length writes into room enough for all; nothing where it refuses.
+/// What a call that gives its length writes into room enough for every trace; nothing where it refuses.
 pub fn whole(call: impl FnOnce(&mut [u8]) -> u32) -> Vec<u8> {
-    let mut out = vec![0; LENGTH_LIMIT];
+    whole_within(LENGTH_LIMIT, call)
+}
+
+/// As `whole`, into so much room.
+pub fn whole_within(room: usize, call: impl FnOnce(&mut [u8]) -> u32) -> Vec<u8> {
+    let mut out = vec![0; room];
     let length = call(&mut out);
     out.truncate(length as usize);
+    out.shrink_to_fit();
     out
 }
 

@@ -8,8 +8,8 @@ use std::process::ExitCode;
 use std::time::{Duration, Instant, SystemTime, UNIX_EPOCH};
 
 use host::archive::ARCHIVE;
-use host::case::{Case, JudgeCase, PrintCase, RunCase, SliceCase, TraceCase};
-use host::cases::{judging, printing, running, slicing, unwinding, Known};
+use host::case::{Case, JudgeCase, PrintCase, RunCase, ScriptCase, SliceCase, TraceCase};
+use host::cases::{judging, printing, running, scripting, slicing, unwinding, Known};
 use host::check::{first_failing, seeds, AnyCheck, Asked};
 use host::hold::{case_count, first_seed, hold_known};
 use host::{checks, program};
@@ -87,6 +87,7 @@ fn repeat_known(case: &str, name: &str) -> bool {
         JudgeCase::NAME => hold_named(judging::all, name),
         TraceCase::NAME => hold_named(unwinding::all, name),
         SliceCase::NAME => hold_named(slicing::all, name),
+        ScriptCase::NAME => hold_named(scripting::all, name),
         PrintCase::NAME => hold_named(printing::all, name),
         _ => panic!("CASE names no call: {case}"),
     }

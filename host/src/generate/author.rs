@@ -103,18 +103,28 @@ pub trait Author {
     }
 
     fn expression(&mut self) -> Vec<u8> {
-        let limit = self.draft().form.depth_limit();
-        let peak = match self.random().below(12) {
-            0 => self.random().between(limit - 2, limit),
-            1 => self.random().between(6, limit),
-            _ => self.random().between(1, 5),
-        };
+        let peak = self.peak();
         self.with_peak(peak)
+    }
+
+    /// How many words any expression holds at most.
+    fn peak(&mut self) -> usize {
+        let limit = self.draft().form.depth_limit();
+        usual_peak(self.random(), limit)
     }
 
     fn small_word(&mut self) -> u32 {
         let limit = self.random().pick(&[5, 5, 5, 60]);
         self.random().below(limit) as u32
+    }
+}
+
+/// A few words, seldom as many as an expression may hold.
+pub fn usual_peak(random: &mut Random, limit: usize) -> usize {
+    match random.below(12) {
+        0 => random.between(limit - 2, limit),
+        1 => random.between(6, limit),
+        _ => random.between(1, 5),
     }
 }
 

@@ -8,7 +8,19 @@ use super::expressions::{self, Scope};
 use super::random::Random;
 use crate::encoding::Form;
 
+/// Expressions of many words hold more than this, so that a script's slots have two digits.
+const SHALLOW: usize = 10;
+
 pub fn trace(random: &mut Random) -> Draft {
+    write(random, false)
+}
+
+/// A trace whose expressions hold many words.
+pub fn deep_trace(random: &mut Random) -> Draft {
+    write(random, true)
+}
+
+fn write(random: &mut Random, is_deep: bool) -> Draft {
     let inputs = author::inputs(random);
     let form = random.pick(&[Form::Trace, Form::Trace, Form::OldTrace]);
     let draft = Draft::new(form, inputs);
@@ -16,6 +28,7 @@ pub fn trace(random: &mut Random) -> Draft {
         gap: random.pick(&[0, 0, 3, 40, 5_000]),
         readable: draft.readable(0),
         assignable: inputs.into()..draft.symbol_end(),
+        is_deep,
         random,
         draft,
     };
@@ -31,6 +44,7 @@ struct TraceAuthor<'a> {
     assignable: Range<u16>,
     /// How many symbols an Assign skips at most.
     gap: u16,
+    is_deep: bool,
 }
 
 impl Author for TraceAuthor<'_> {
@@ -99,6 +113,14 @@ impl Author for TraceAuthor<'_> {
         let oldest = self.oldest();
         let symbols = &self.readable[oldest..];
         (!symbols.is_empty()).then(|| Form::Trace.symbol(self.random.pick(symbols)))
+    }
+
+    fn peak(&mut self) -> usize {
+        let limit = self.draft.form.depth_limit();
+        if self.is_deep {
+            return self.random.between(SHALLOW + 1, limit);
+        }
+        author::usual_peak(self.random, limit)
     }
 
     fn with_peak(&mut self, peak: usize) -> Vec<u8> {

@@ -1,14 +1,15 @@
-//! Cases of writing: tables to unwind or to print, traces to slice, written or not, and rooms around what they need.
+//! Cases of writing: tables to unwind or to print, traces to slice or to hand to a solver, written or not, and rooms around
+//! what they need.
 
 use super::draft::Draft;
 use super::expressions::NOT;
 use super::random::Random;
 use super::{any_bound, far, faults, lay_out, right_valuation, rules, run_case, traces, valuation};
-use crate::case::{JudgeCase, PrintCase, RunCase, SliceCase, TraceCase};
+use crate::case::{JudgeCase, PrintCase, RunCase, ScriptCase, SliceCase, TraceCase};
 use crate::encoding::Form;
 use crate::model;
 use crate::parts::as_old_trace;
-use crate::written::{whole, LENGTH_LIMIT};
+use crate::written::{whole, whole_within, LENGTH_LIMIT, SCRIPT_ROOM};
 
 pub fn trace_case(seed: u64) -> TraceCase {
     let mut random = Random::new(seed);
@@ -43,6 +44,14 @@ pub fn slice_case(seed: u64) -> SliceCase {
     SliceCase { trace, room: room(&mut random, length) }
 }
 
+/// The traces that slicing is given, and deeper ones.
+pub fn script_case(seed: u64) -> ScriptCase {
+    let mut random = Random::new(seed);
+    let trace = if random.one_in(3) { any_deep_trace(&mut random) } else { any_trace(&mut random) };
+    let length = whole_within(SCRIPT_ROOM, |out| model::script(&trace, out).length).len();
+    ScriptCase { trace, room: room(&mut random, length) }
+}
+
 /// Judging of the traces that slicing is given.
 pub fn sliced_judge_case(seed: u64) -> JudgeCase {
     let mut random = Random::new(seed);
@@ -68,6 +77,12 @@ fn any_trace(random: &mut Random) -> Vec<u8> {
         _ => {}
     }
     trace
+}
+
+/// From no table, with expressions of many words, damaged or not.
+fn any_deep_trace(random: &mut Random) -> Vec<u8> {
+    let trace = traces::deep_trace(random);
+    lay_out(random, trace)
 }
 
 fn any_written_trace(random: &mut Random) -> Vec<u8> {

@@ -29,6 +29,11 @@ impl<'a> Writer<'a> {
         self.end += bytes.len();
     }
 
+    pub fn put_repeated(&mut self, byte: u8, count: usize) {
+        self.out[self.end..][..count].fill(byte);
+        self.end += count;
+    }
+
     /// Writes a number over what stands at an offset.
     pub fn set_number(&mut self, offset: usize, number: u16) {
         self.out[offset..][..2].copy_from_slice(&number.to_be_bytes());
