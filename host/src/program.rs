@@ -1,9 +1,9 @@
 //! The slice printer, run as the program that `rt check print_slice` builds.
 
-use std::io::{ErrorKind, Write};
 use std::path::Path;
-use std::process::{ChildStdin, Command, Stdio};
-use std::thread;
+use std::process::Command;
+
+use crate::process;
 
 const PROGRAM: &str = concat!(env!("CARGO_MANIFEST_DIR"), "/../target/bin/print_slice");
 
@@ -33,21 +33,6 @@ pub fn find() -> Result<(), String> {
 
 pub fn print_slice(input: &[u8]) -> Printed {
     find().unwrap_or_else(|missing| panic!("{missing}"));
-    let mut command = Command::new(PROGRAM);
-    command.stdin(Stdio::piped()).stdout(Stdio::piped()).stderr(Stdio::piped());
-    let mut program = command.spawn().unwrap_or_else(|error| panic!("{PROGRAM}: {error}"));
-    let stdin = program.stdin.take().expect("standard input is piped");
-    let output = thread::scope(|scope| {
-        scope.spawn(|| feed(stdin, input));
-        program.wait_with_output().expect("the output can be read")
-    });
+    let output = process::run(&mut Command::new(PROGRAM), input).unwrap_or_else(|error| panic!("{PROGRAM}: {error}"));
     Printed { text: output.stdout, exit_status: output.status.code(), is_error_empty: output.stderr.is_empty() }
-}
-
-/// Writes all, unless the program ends without reading so far: it may, where a table is too long.
-fn feed(mut stdin: ChildStdin, input: &[u8]) {
-    match stdin.write_all(input) {
-        Err(error) if error.kind() != ErrorKind::BrokenPipe => panic!("standard input: {error}"),
-        _ => {}
-    }
 }

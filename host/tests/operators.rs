@@ -1,16 +1,15 @@
 //! Every operator against z3, an independent SMT-LIB evaluator, through judged traces.
 
 use std::env;
-use std::fs;
-use std::path::Path;
-use std::process::Command;
 use std::sync::LazyLock;
+use std::time::Duration;
 
 use host::case::{Case, JudgeCase};
 use host::command;
 use host::encoding;
 use host::generate::random::Random;
 use host::model::JudgeAnswer;
+use host::solver::{self, Solver};
 use host::statement::{assert, assign, read};
 use host::verdict::UNSAFE;
 
@@ -56,6 +55,8 @@ const EDGES: [u32; 24] = [
     0, 1, 2, 3, 7, 10, 31, 32, 33, 63, 64, 255, 256, 65535, 65536, 65537, 0x55555555, 0x7FFFFFFE, 0x7FFFFFFF,
     0x80000000, 0x80000001, 0xAAAAAAAA, 0xFFFFFFFE, 0xFFFFFFFF,
 ];
+/// z3 takes a few seconds for all.
+const LIMIT: Duration = Duration::from_secs(120);
 /// How often each operator is given random operands.
 const RANDOM_TRIES: usize = 500;
 
@@ -141,12 +142,7 @@ fn standard() -> &'static [(Term, u32)] {
 
 fn ask_z3() -> Result<Vec<(Term, u32)>, String> {
     let terms = terms();
-    let path = Path::new(env!("CARGO_TARGET_TMPDIR")).join("operators.smt2");
-    fs::write(&path, script(&terms)).map_err(|error| format!("{} is not written: {error}", path.display()))?;
-    let output = Command::new("z3").arg(&path).output().map_err(|error| {
-        format!("z3 does not start ({error}): install the Debian package z3, `apt-get install z3` as root")
-    })?;
-    let text = String::from_utf8_lossy(&output.stdout);
+    let text = Solver::Z3.ask(script(&terms).as_bytes(), LIMIT)?;
     let words: Vec<u32> = text.lines().map(word_of).collect::<Result<_, _>>()?;
     if words.len() != terms.len() {
         return Err(format!("z3 answers {} of {} terms", words.len(), terms.len()));
@@ -155,8 +151,7 @@ fn ask_z3() -> Result<Vec<(Term, u32)>, String> {
 }
 
 fn word_of(line: &str) -> Result<u32, String> {
-    let digits = line.strip_prefix("#x").unwrap_or("");
-    u32::from_str_radix(digits, 16).map_err(|_| format!("z3 answers no word: {line}"))
+    solver::word(line).ok_or_else(|| format!("z3 answers no word: {line}"))
 }
 
 fn script(terms: &[Term]) -> String {
