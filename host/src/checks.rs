@@ -6,6 +6,7 @@ use crate::archive::Calls;
 use crate::case::{Case, JudgeCase, PrintCase, RunCase, ScriptCase, SliceCase, TraceCase};
 use crate::check::{AnyCheck, Asked, Check};
 use crate::generate;
+use crate::solving;
 
 pub const RUN: Check<RunCase> =
     Check { name: RunCase::NAME, count: 100_000, speaks_of: None, generate: generate::run_case, ask: ask_model };
@@ -83,6 +84,33 @@ pub const PRINT_READ: Check<PrintCase> = Check {
     ask: agreement::print_read,
 };
 
+/// Each case starts both solvers.
+pub const ACCEPTED: Check<ScriptCase> = Check {
+    name: "accepted",
+    count: 200,
+    speaks_of: Some(("a script that can be satisfied", 30_000)),
+    generate: generate::unpinned_script_case,
+    ask: solving::accepted,
+};
+
+/// Each case starts both solvers.
+pub const PINNED: Check<JudgeCase> = Check {
+    name: "pinned",
+    count: 1_000,
+    speaks_of: Some(("an unsafe trace", 20_000)),
+    generate: generate::pinned_judge_case,
+    ask: solving::pinned,
+};
+
+/// Each case starts both solvers twice.
+pub const SOLVED: Check<RunCase> = Check {
+    name: "solved",
+    count: 60,
+    speaks_of: Some(("a solution", 20_000)),
+    generate: generate::unpinned_run_case,
+    ask: solving::solved,
+};
+
 /// The checks of the archive alone.
 pub const OF_ARCHIVE: [&dyn AnyCheck; 11] = [
     &RUN,
@@ -97,6 +125,9 @@ pub const OF_ARCHIVE: [&dyn AnyCheck; 11] = [
     &SLICE_UNREAD,
     &SLICE_TWICE,
 ];
+
+/// The checks of the archive that need both solvers.
+pub const OF_SOLVERS: [&dyn AnyCheck; 3] = [&ACCEPTED, &PINNED, &SOLVED];
 
 /// The checks of the slice printer.
 pub const OF_PROGRAM: [&dyn AnyCheck; 2] = [&PRINT, &PRINT_READ];

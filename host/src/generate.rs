@@ -2,6 +2,7 @@
 
 pub mod random;
 
+mod asked;
 mod author;
 mod draft;
 mod expressions;
@@ -11,6 +12,7 @@ mod rules;
 mod traces;
 mod writing;
 
+pub use asked::{pinned_judge_case, unpinned_run_case, unpinned_script_case};
 pub use writing::{print_case, script_case, slice_case, sliced_judge_case, trace_case, unwound_run_case};
 
 use crate::case::{JudgeCase, RunCase};
@@ -91,7 +93,7 @@ fn valuation(random: &mut Random, inputs: usize) -> Vec<u8> {
     valuation
 }
 
-fn right_valuation(random: &mut Random, inputs: usize) -> Vec<u8> {
+pub fn right_valuation(random: &mut Random, inputs: usize) -> Vec<u8> {
     let words: Vec<u32> = (0..inputs).map(|_| random.word()).collect();
     encoding::valuation(&words)
 }

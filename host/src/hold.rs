@@ -83,7 +83,8 @@ fn hold_hits(check: &dyn AnyCheck, hits: impl IntoIterator<Item = Hits>) {
     assert!(too_few.is_empty(), "too few cases:\n{}", too_few.join("\n"));
 }
 
-fn test_seeds(count: u64) -> impl Iterator<Item = u64> {
+/// The seeds of a test that generates so many cases.
+pub fn test_seeds(count: u64) -> impl Iterator<Item = u64> {
     seeds(first_seed().unwrap_or(1), case_count(count))
 }
 

@@ -20,6 +20,7 @@ pub mod process;
 pub mod program;
 pub mod shrink;
 pub mod solver;
+pub mod solving;
 pub mod statement;
 pub mod verdict;
 pub mod written;

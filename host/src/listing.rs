@@ -37,17 +37,23 @@ pub fn read<L: AsRef<str>>(inputs: u8, lines: &[L]) -> Result<Vec<u8>, String> {
     Ok(encoding::trace(inputs, &statements))
 }
 
+/// The bytes of an expression, or of a part of one.
+pub fn expression(text: &str) -> Vec<u8> {
+    let tokens: Vec<&str> = text.split(' ').collect();
+    read_expression(&tokens).unwrap_or_else(|error| panic!("{error}"))
+}
+
 fn statement(line: &str) -> Result<Vec<u8>, String> {
     match line.split(' ').collect::<Vec<&str>>()[..] {
-        [place, "assign", new, ref tokens @ ..] => Ok(assign(number(place)?, symbol(new)?, &expression(tokens)?)),
-        [place, "assume", ref tokens @ ..] => Ok(assume(number(place)?, &expression(tokens)?)),
-        [place, "assert", ref tokens @ ..] => Ok(assert(number(place)?, &expression(tokens)?)),
-        [place, "bound", ref tokens @ ..] => Ok(bound(number(place)?, &expression(tokens)?)),
+        [place, "assign", new, ref tokens @ ..] => Ok(assign(number(place)?, symbol(new)?, &read_expression(tokens)?)),
+        [place, "assume", ref tokens @ ..] => Ok(assume(number(place)?, &read_expression(tokens)?)),
+        [place, "assert", ref tokens @ ..] => Ok(assert(number(place)?, &read_expression(tokens)?)),
+        [place, "bound", ref tokens @ ..] => Ok(bound(number(place)?, &read_expression(tokens)?)),
         _ => Err(format!("{line} is no statement")),
     }
 }
 
-fn expression(tokens: &[&str]) -> Result<Vec<u8>, String> {
+fn read_expression(tokens: &[&str]) -> Result<Vec<u8>, String> {
     let bytes: Vec<Vec<u8>> = tokens.iter().map(|token| bytes(token)).collect::<Result<_, _>>()?;
     Ok(bytes.concat())
 }

@@ -1,6 +1,7 @@
 //! A table or a trace taken apart, however damaged.
 
 use crate::encoding::{self, Form};
+use crate::statement;
 
 #[derive(Clone)]
 pub struct Parts {
@@ -65,6 +66,12 @@ pub fn as_old_trace(trace: &[u8]) -> Vec<u8> {
         *kind = if *kind == 4 { 2 } else { *kind };
     }
     parts.join()
+}
+
+/// Whether a trace, which has a whole header, begins as that of a table.
+pub fn has_opening(trace: &[u8]) -> bool {
+    let opening = statement::assign(65535, trace[3].into(), &[1, 0, 0, 0, 0]);
+    Parts::of(trace).is_some_and(|parts| parts.records.first() == Some(&opening))
 }
 
 /// A table whose jumps to themselves go on to what follows them instead.

@@ -18,6 +18,11 @@ pub enum Answer {
     Unsat,
 }
 
+/// Says which one is missing.
+pub fn find() -> Result<(), String> {
+    Solver::ALL.iter().try_for_each(|solver| solver.ask(b"", Duration::from_secs(10)).map(drop))
+}
+
 impl Solver {
     pub const ALL: [Solver; 2] = [Solver::Z3, Solver::Cvc5];
 

@@ -5,8 +5,7 @@ use host::cases::{slicing as cases, traces};
 use host::checks;
 use host::hold::{hold, hold_features, hold_known};
 use host::model::{self, JudgeAnswer, SliceAnswer};
-use host::parts::Parts;
-use host::statement::assign;
+use host::parts::{has_opening, Parts};
 use host::verdict;
 use host::written::{fit, whole, Written};
 
@@ -223,8 +222,7 @@ fn sliced_features(case: &SliceCase, answer: SliceAnswer) -> Vec<&'static str> {
 
 /// Whether the trace begins as the trace of a table.
 fn origin(trace: &[u8]) -> &'static str {
-    let opening = assign(65535, trace[3].into(), &[1, 0, 0, 0, 0]);
-    if statements(trace).first() == Some(&opening) {
+    if has_opening(trace) {
         return "of a table";
     }
     "of no table"

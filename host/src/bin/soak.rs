@@ -1,6 +1,6 @@
-//! Any number of generated cases for every check, of the archive and of the slice printer. CASES says how many, SEED where
-//! they begin, in place of the clock. CASE names one check, of which the case of SEED alone is asked, or a call, of which
-//! the case KNOWN by that name is.
+//! Any number of generated cases for every check, of the archive, with solvers too, and of the slice printer. CASES says how
+//! many, SEED where they begin, in place of the clock. CASE names one check, of which the case of SEED alone is asked, or a
+//! call, of which the case KNOWN by that name is.
 
 use std::collections::BTreeMap;
 use std::env;
@@ -12,12 +12,14 @@ use host::case::{Case, JudgeCase, PrintCase, RunCase, ScriptCase, SliceCase, Tra
 use host::cases::{judging, printing, running, scripting, slicing, unwinding, Known};
 use host::check::{first_failing, seeds, AnyCheck, Asked};
 use host::hold::{case_count, first_seed, hold_known};
-use host::{checks, program};
+use host::{checks, program, solver};
 
 /// How many cases of each check are generated.
 const CASES: u64 = 100_000;
 /// Starting the program takes as long as so many cases of the archive.
 const PROGRAM_COST: u64 = 20;
+/// Asking solvers takes as long as so many cases of the archive.
+const SOLVER_COST: u64 = 500;
 /// How often progress is told.
 const INTERVAL: Duration = Duration::from_secs(10);
 
@@ -39,16 +41,18 @@ fn soak() -> bool {
     let seed = first_seed().unwrap_or_else(clock);
     let count = case_count(CASES);
     println!("soak: from seed {seed} on, where SEED={seed} begins again");
-    let of_archive = checks::OF_ARCHIVE.map(|check| soak_check(check, seed, count));
-    of_archive.iter().all(|holds| *holds) & soak_program(seed, count.div_ceil(PROGRAM_COST))
+    soak_checks(Ok(()), &checks::OF_ARCHIVE, seed, count)
+        & soak_checks(solver::find(), &checks::OF_SOLVERS, seed, count.div_ceil(SOLVER_COST))
+        & soak_checks(program::find(), &checks::OF_PROGRAM, seed, count.div_ceil(PROGRAM_COST))
 }
 
-fn soak_program(seed: u64, count: u64) -> bool {
-    if let Err(missing) = program::find() {
-        println!("print: not tried, as {missing}");
+/// Checks that are not tried where what they need is not found.
+fn soak_checks(found: Result<(), String>, checks: &[&dyn AnyCheck], seed: u64, count: u64) -> bool {
+    if let Err(missing) = found {
+        checks.iter().for_each(|check| println!("{}: not tried, as {missing}", check.name()));
         return true;
     }
-    checks::OF_PROGRAM.map(|check| soak_check(check, seed, count)).iter().all(|holds| *holds)
+    checks.iter().filter(|check| !soak_check(**check, seed, count)).count() == 0
 }
 
 fn soak_check(check: &dyn AnyCheck, seed: u64, count: u64) -> bool {
@@ -68,7 +72,7 @@ fn clock() -> u64 {
 }
 
 fn repeat(name: &str) -> bool {
-    let mut all = checks::OF_ARCHIVE.into_iter().chain(checks::OF_PROGRAM);
+    let mut all = checks::OF_ARCHIVE.into_iter().chain(checks::OF_SOLVERS).chain(checks::OF_PROGRAM);
     let check = all.find(|check| check.name() == name).unwrap_or_else(|| panic!("CASE names no check: {name}"));
     let seed = first_seed().expect("CASE asks for a SEED");
     let holds = check.ask_seed(seed, ARCHIVE).wrong.is_empty();

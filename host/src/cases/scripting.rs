@@ -13,6 +13,9 @@ use crate::written::{Written, LENGTH_LIMIT, SCRIPT_ROOM};
 
 type KnownScript = Known<ScriptCase>;
 
+/// A test at a place, from its condition.
+type Statement = fn(u16, &[u8]) -> Vec<u8>;
+
 const DOCUMENT: &str = include_str!("../../../docs/SCRIPT.md");
 
 /// The room behind a script, or where there is none.
@@ -165,7 +168,7 @@ pub fn scripts() -> Vec<KnownScript> {
 
 /// The limits of traces.
 pub fn limits() -> Vec<KnownScript> {
-    let trace = |kind: fn(u16, &[u8]) -> Vec<u8>| {
+    let trace = |kind: Statement| {
         let last = vec![assert(1, &CONSTANT_1)];
         encoding::trace(0, &[vec![kind(1, &CONSTANT_1); 4095], last].concat())
     };
@@ -186,10 +189,25 @@ pub fn limits() -> Vec<KnownScript> {
 pub fn longest() -> Vec<u8> {
     const ZERO: u8 = 0x12;
     const UREM: u8 = 0x24;
-    let pushed: Vec<u8> = (53..64).flat_map(read).collect();
-    let around = [&pushed[..], &[UREM; 10]].concat();
-    let zeros = LENGTH_LIMIT - encoding::trace(64, &[assert(0, &around)]).len();
-    encoding::trace(64, &[assert(0, &[&pushed[..], &vec![ZERO; zeros], &[UREM; 10]].concat())])
+    let trace = |zeros| {
+        let expression = [(53..64).flat_map(read).collect(), vec![ZERO; zeros], vec![UREM; 10]].concat();
+        encoding::trace(64, &[assert(0, &expression)])
+    };
+    trace(LENGTH_LIMIT - trace(0).len())
+}
+
+/// A trace of as many tests as there may be: s0 is no number below 4,096, and every third test is an Assert of that.
+pub fn most_tests() -> Vec<u8> {
+    let differs = |i: u16| listing::expression(&format!("s0 {i} equal zero"));
+    let kinds: [Statement; 3] = [assume, bound, assert];
+    let tests: Vec<Vec<u8>> = (0..4096).map(|i| kinds[usize::from(i) % 3](i, &differs(i))).collect();
+    encoding::trace(1, &tests)
+}
+
+/// A trace of one Assert of 65,001 tokens: s0 turned twice and negated twice, again and again.
+pub fn most_tokens() -> Vec<u8> {
+    let again = listing::expression("not not neg neg").repeat(16_250);
+    encoding::trace(1, &[assert(0, &[read(0), again].concat())])
 }
 
 /// Sentences on room, and on what is refused before it.

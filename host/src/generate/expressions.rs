@@ -8,6 +8,8 @@ pub const ZERO: u8 = 0x12;
 
 const ADD: u8 = 0x20;
 const SUB: u8 = 0x21;
+const UREM: u8 = 0x24;
+const LSHR: u8 = 0x29;
 const EQUAL: u8 = 0x2A;
 const ULT: u8 = 0x2B;
 const ULE: u8 = 0x2D;
@@ -94,6 +96,11 @@ pub fn one_more(expression: Vec<u8>) -> Vec<u8> {
 
 pub fn one_less(expression: Vec<u8>) -> Vec<u8> {
     with_constant(expression, 1, SUB)
+}
+
+/// Of few words this is a remainder by one, of all others by zero.
+pub fn remainder_by_highest_bit(dividend: Vec<u8>, divisor: Vec<u8>) -> Vec<u8> {
+    [dividend, with_constant(divisor, 31, LSHR), vec![UREM]].concat()
 }
 
 fn with_constant(expression: Vec<u8>, word: u32, operator: u8) -> Vec<u8> {

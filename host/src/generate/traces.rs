@@ -8,19 +8,19 @@ use super::expressions::{self, Scope};
 use super::random::Random;
 use crate::encoding::Form;
 
-/// Expressions of many words hold more than this, so that a script's slots have two digits.
-const SHALLOW: usize = 10;
+/// An expression that holds more words has slots of two digits in a script.
+const ONE_DIGIT: usize = 10;
 
 pub fn trace(random: &mut Random) -> Draft {
     write(random, false)
 }
 
-/// A trace whose expressions hold many words.
-pub fn deep_trace(random: &mut Random) -> Draft {
+/// A trace with the traps of scripts: slots of two digits, and remainders by zero.
+pub fn trapping_trace(random: &mut Random) -> Draft {
     write(random, true)
 }
 
-fn write(random: &mut Random, is_deep: bool) -> Draft {
+fn write(random: &mut Random, has_traps: bool) -> Draft {
     let inputs = author::inputs(random);
     let form = random.pick(&[Form::Trace, Form::Trace, Form::OldTrace]);
     let draft = Draft::new(form, inputs);
@@ -28,7 +28,7 @@ fn write(random: &mut Random, is_deep: bool) -> Draft {
         gap: random.pick(&[0, 0, 3, 40, 5_000]),
         readable: draft.readable(0),
         assignable: inputs.into()..draft.symbol_end(),
-        is_deep,
+        has_traps,
         random,
         draft,
     };
@@ -44,7 +44,7 @@ struct TraceAuthor<'a> {
     assignable: Range<u16>,
     /// How many symbols an Assign skips at most.
     gap: u16,
-    is_deep: bool,
+    has_traps: bool,
 }
 
 impl Author for TraceAuthor<'_> {
@@ -58,6 +58,10 @@ impl Author for TraceAuthor<'_> {
 
     fn block(&mut self) {
         for _ in 0..self.random.between(1, 6) {
+            if self.has_traps && self.random.one_in(4) {
+                self.test_remainder();
+                continue;
+            }
             match self.random.below(12) {
                 0..=5 => self.assign_any(),
                 6..=7 => self.test_likely(ASSERT),
@@ -117,8 +121,8 @@ impl Author for TraceAuthor<'_> {
 
     fn peak(&mut self) -> usize {
         let limit = self.draft.form.depth_limit();
-        if self.is_deep {
-            return self.random.between(SHALLOW + 1, limit);
+        if self.has_traps {
+            return self.random.between(ONE_DIGIT + 1, limit);
         }
         author::usual_peak(self.random, limit)
     }
@@ -137,6 +141,16 @@ impl TraceAuthor<'_> {
             Form::Trace => self.random.pick(&[ASSUME, BOUND]),
             Form::Table | Form::OldTrace => ASSUME,
         }
+    }
+
+    /// An Assert on a remainder, mostly by zero.
+    fn test_remainder(&mut self) {
+        let [Some(dividend), Some(divisor)] = [self.read(), self.read()] else {
+            return self.test_any(ASSERT);
+        };
+        let remainder = expressions::remainder_by_highest_bit(dividend, divisor);
+        let condition = expressions::comparison(self.random, remainder);
+        self.test(ASSERT, condition);
     }
 
     /// Where the symbols to read begin: all of them, or the newest.

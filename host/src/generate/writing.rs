@@ -44,10 +44,10 @@ pub fn slice_case(seed: u64) -> SliceCase {
     SliceCase { trace, room: room(&mut random, length) }
 }
 
-/// The traces that slicing is given, and deeper ones.
+/// The traces that slicing is given, and some with the traps of scripts.
 pub fn script_case(seed: u64) -> ScriptCase {
     let mut random = Random::new(seed);
-    let trace = if random.one_in(3) { any_deep_trace(&mut random) } else { any_trace(&mut random) };
+    let trace = if random.one_in(3) { any_trapping_trace(&mut random) } else { any_trace(&mut random) };
     let length = whole_within(SCRIPT_ROOM, |out| model::script(&trace, out).length).len();
     ScriptCase { trace, room: room(&mut random, length) }
 }
@@ -79,19 +79,19 @@ fn any_trace(random: &mut Random) -> Vec<u8> {
     trace
 }
 
-/// From no table, with expressions of many words, damaged or not.
-fn any_deep_trace(random: &mut Random) -> Vec<u8> {
-    let trace = traces::deep_trace(random);
+/// From no table, damaged or not.
+fn any_trapping_trace(random: &mut Random) -> Vec<u8> {
+    let trace = traces::trapping_trace(random);
     lay_out(random, trace)
 }
 
-fn any_written_trace(random: &mut Random) -> Vec<u8> {
+pub fn any_written_trace(random: &mut Random) -> Vec<u8> {
     let (rule, bound) = rule_and_bound_with_trace(random);
     written_trace(&rule.encode(), bound)
 }
 
 /// The first that have a trace, of which reply 10 says that nothing but room is missing.
-fn rule_and_bound_with_trace(random: &mut Random) -> (Draft, u64) {
+pub fn rule_and_bound_with_trace(random: &mut Random) -> (Draft, u64) {
     loop {
         let (rule, bound) = rule_and_bound(random);
         if model::trace(&rule.encode(), bound, &mut []).reply == 10 {
@@ -136,7 +136,7 @@ fn fill(random: &mut Random, rule: &mut Draft, bound: u64) {
 }
 
 /// The trace of a table, empty where there is none.
-fn written_trace(table: &[u8], bound: u64) -> Vec<u8> {
+pub fn written_trace(table: &[u8], bound: u64) -> Vec<u8> {
     whole(|out| model::trace(table, bound, out).length)
 }
 
