@@ -3,15 +3,18 @@
 
 use std::io::{self, Write};
 use std::process::Command;
+use std::str;
 
 use host::archive::{Calls, ARCHIVE};
 use host::check::{first_failing, seeds, AnyCheck};
 use host::checks;
 use host::parts::{as_old_trace, without_self_jumps, Parts};
 use host::program::Printed;
+use host::solving::with_plain_remainders;
 use host::verdict::{CUT, ENDED, STOPPED, UNSAFE};
 
 const ASSUME: u8 = 2;
+const ASSERT: u8 = 3;
 const BOUND: u8 = 4;
 /// Buffers as long as this are lent to few calls.
 const LONG: usize = 60_000;
@@ -278,11 +281,7 @@ struct SlicesWithout(u8);
 impl Calls for SlicesWithout {
     fn slice_length(&self, trace: &[u8], out: &mut [u8]) -> u32 {
         let length = ARCHIVE.slice_length(trace, out) as usize;
-        let Some(mut parts) = Parts::of(&out[..length]) else {
-            return 0;
-        };
-        parts.records.retain(|record| record[0] != self.0);
-        let slice = parts.join();
+        let slice = without(&out[..length], self.0);
         out[..slice.len()].copy_from_slice(&slice);
         slice.len() as u32
     }
@@ -411,6 +410,113 @@ fn a_slice_of_another_version_than_its_trace_is_noticed() {
 }
 
 #[test]
+fn a_letter_of_a_long_script_is_noticed() {
+    struct Liar;
+    impl Calls for Liar {
+        fn script_length(&self, trace: &[u8], out: &mut [u8]) -> u32 {
+            let length = ARCHIVE.script_length(trace, out);
+            if length as usize > LONG {
+                out[length as usize / 2] ^= 1;
+            }
+            length
+        }
+    }
+    is_noticed_by(&checks::SCRIPT, "a letter in the middle of a long script", &Liar);
+}
+
+#[test]
+fn a_zero_behind_a_script_is_noticed() {
+    struct Liar;
+    impl Calls for Liar {
+        fn script_length(&self, trace: &[u8], out: &mut [u8]) -> u32 {
+            let length = ARCHIVE.script_length(trace, out);
+            out.iter_mut().skip(length as usize).take(1).for_each(|byte| *byte = 0);
+            length
+        }
+    }
+    is_noticed_by(&checks::SCRIPT, "a zero behind the script", &Liar);
+}
+
+#[test]
+fn a_script_that_is_refused_the_exact_room_is_noticed() {
+    struct Liar;
+    impl Calls for Liar {
+        fn script_reply(&self, trace: &[u8], out: &mut [u8]) -> u32 {
+            match ARCHIVE.script_reply(trace, out) {
+                0 if ARCHIVE.whole_script(trace).len() == out.len() => 10,
+                reply => reply,
+            }
+        }
+    }
+    is_noticed_by(&checks::SCRIPT, "reply 10 for the exact room", &Liar);
+}
+
+#[test]
+fn room_that_is_enough_for_the_script_of_the_slice_alone_is_noticed() {
+    struct Liar;
+    impl Calls for Liar {
+        fn script_reply(&self, trace: &[u8], out: &mut [u8]) -> u32 {
+            match ARCHIVE.script_reply(trace, out) {
+                10 => ARCHIVE.script_reply(&ARCHIVE.whole_slice(trace), out),
+                reply => reply,
+            }
+        }
+    }
+    is_noticed_by(&checks::SCRIPT, "the room of the slice's script", &Liar);
+}
+
+#[test]
+fn a_script_that_lacks_a_parenthesis_is_noticed() {
+    struct Liar;
+    impl Calls for Liar {
+        fn script_length(&self, trace: &[u8], out: &mut [u8]) -> u32 {
+            let length = ARCHIVE.script_length(trace, out);
+            rewrite(out, length, |script| script.replacen("false)", "false", 1))
+        }
+    }
+    is_noticed_by(&checks::SCRIPT, "a parenthesis less", &Liar);
+    is_noticed_by(&checks::ACCEPTED, "a parenthesis less", &Liar);
+}
+
+#[test]
+fn a_script_without_its_bounds_is_noticed() {
+    struct Liar;
+    impl Calls for Liar {
+        fn script_length(&self, trace: &[u8], out: &mut [u8]) -> u32 {
+            ARCHIVE.script_length(&without(trace, BOUND), out)
+        }
+    }
+    is_noticed_by(&checks::SCRIPT, "a script without its bounds", &Liar);
+    is_noticed_by(&checks::PINNED, "a script without its bounds", &Liar);
+}
+
+#[test]
+fn a_script_with_smt_libs_own_remainder_is_noticed() {
+    struct Liar;
+    impl Calls for Liar {
+        fn script_length(&self, trace: &[u8], out: &mut [u8]) -> u32 {
+            let length = ARCHIVE.script_length(trace, out);
+            rewrite(out, length, with_plain_remainders)
+        }
+    }
+    is_noticed_by(&checks::SCRIPT, "a plain urem", &Liar);
+    is_noticed_by(&checks::PINNED, "a plain urem", &Liar);
+}
+
+#[test]
+fn a_script_that_asks_of_the_last_assert_alone_is_noticed() {
+    struct Liar;
+    impl Calls for Liar {
+        fn script_length(&self, trace: &[u8], out: &mut [u8]) -> u32 {
+            ARCHIVE.script_length(&with_last_assert_alone(trace), out)
+        }
+    }
+    is_noticed_by(&checks::SCRIPT, "Asserts but the last as Assumes", &Liar);
+    is_noticed_by(&checks::PINNED, "Asserts but the last as Assumes", &Liar);
+    is_noticed_by(&checks::SOLVED, "Asserts but the last as Assumes", &Liar);
+}
+
+#[test]
 fn a_back_jump_too_many_in_an_unsafe_run_is_noticed() {
     struct Liar;
     impl Calls for Liar {
@@ -470,11 +576,38 @@ fn a_failing_case_is_reported_with_the_command_that_repeats_it() {
     assert_eq!(String::from_utf8_lossy(&output.stdout), format!("run: the case of seed {seed} holds\n"));
 }
 
+/// A trace without its statements of a kind; empty where there is no header.
+fn without(trace: &[u8], kind: u8) -> Vec<u8> {
+    let Some(mut parts) = Parts::of(trace) else {
+        return vec![];
+    };
+    parts.records.retain(|record| record.first() != Some(&kind));
+    parts.join()
+}
+
+/// A trace in which all Asserts but the last are Assumes; empty where there is no header.
+fn with_last_assert_alone(trace: &[u8]) -> Vec<u8> {
+    let Some(mut parts) = Parts::of(trace) else {
+        return vec![];
+    };
+    let asserts = parts.records.iter_mut().filter_map(|record| record.first_mut()).filter(|kind| **kind == ASSERT);
+    asserts.rev().skip(1).for_each(|kind| *kind = ASSUME);
+    parts.join()
+}
+
 /// A trace of version 129 called one of version 130.
 fn as_130(trace: &[u8]) -> Vec<u8> {
     let mut trace = trace.to_vec();
     trace.iter_mut().take(1).filter(|version| **version == 129).for_each(|version| *version = 130);
     trace
+}
+
+/// Puts another script into the place of one of so many letters, and gives its length, where it is not longer.
+fn rewrite(out: &mut [u8], length: u32, edit: impl Fn(&str) -> String) -> u32 {
+    let script = str::from_utf8(&out[..length as usize]).expect("a text");
+    let edited = edit(script);
+    out[..edited.len()].copy_from_slice(edited.as_bytes());
+    edited.len() as u32
 }
 
 fn count(file: &[u8]) -> u32 {
