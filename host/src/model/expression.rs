@@ -113,9 +113,11 @@ pub fn is_accepted<F: Form>(mut bytes: &[u8], may_read: impl Fn(usize) -> bool) 
         let Some((token, rest)) = split_token::<F>(bytes) else {
             return false;
         };
-        let pops = token.pops();
-        let is_unreadable = matches!(token, Token::Symbol(symbol) if !may_read(symbol));
-        if is_unreadable || depth < pops || depth - pops == F::DEPTH_LIMIT {
+        let pops = match token {
+            Token::Symbol(symbol) if !may_read(symbol) => return false,
+            _ => token.pops(),
+        };
+        if depth < pops || depth - pops == F::DEPTH_LIMIT {
             return false;
         }
         depth = depth - pops + 1;
