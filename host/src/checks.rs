@@ -21,7 +21,7 @@ pub const SLICE: Check<SliceCase> =
     Check { name: SliceCase::NAME, count: 40_000, speaks_of: None, generate: generate::slice_case, ask: ask_model };
 
 pub const SCRIPT: Check<ScriptCase> =
-    Check { name: ScriptCase::NAME, count: 20_000, speaks_of: None, generate: generate::script_case, ask: ask_model };
+    Check { name: ScriptCase::NAME, count: 15_000, speaks_of: None, generate: generate::script_case, ask: ask_model };
 
 /// Each case starts the program.
 pub const PRINT: Check<PrintCase> =

@@ -62,14 +62,14 @@ pub fn hold_features<C: Case>(
 }
 
 /// How many cases show a feature, and how many of 100,000 have to.
-struct Hits {
-    feature: String,
-    cases: u64,
-    least: u64,
+pub struct Hits {
+    pub feature: String,
+    pub cases: u64,
+    pub least: u64,
 }
 
 /// Tells the hits, also where a test's output is not shown, and asks for enough of each.
-fn hold_hits(check: &dyn AnyCheck, hits: impl IntoIterator<Item = Hits>) {
+pub fn hold_hits(check: &dyn AnyCheck, hits: impl IntoIterator<Item = Hits>) {
     let count = case_count(check.count());
     let mut too_few = Vec::new();
     for Hits { feature, cases, least } in hits {

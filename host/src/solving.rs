@@ -47,8 +47,7 @@ pub fn due(JudgeCase { trace, valuation }: &JudgeCase, calls: &dyn Calls) -> Ans
 
 /// Both solvers answer the script, and alike. It says nothing of a refused case.
 pub fn accepted(case: &ScriptCase, calls: &dyn Calls) -> Asked {
-    let mut script = vec![0; case.room];
-    let reply = calls.script_reply(&case.trace, &mut script);
+    let reply = calls.script_reply(&case.trace, &mut vec![0; case.room]);
     if reply != 0 {
         return Asked { reply, counts: false, wrong: vec![] };
     }
@@ -80,8 +79,8 @@ fn answers_but(due: Answer, solvers: &[Solver], script: &[u8]) -> Vec<String> {
     solvers.iter().filter_map(difference).collect()
 }
 
-/// Inputs that satisfy the script of a written trace, or of its slice, make the run unsafe, and the judged trace and slice
-/// at its place; where there are none, no other words do. It says nothing where there is no trace.
+/// Inputs that satisfy the script of a written trace, or of its slice, make the run unsafe, and the judged trace and
+/// slice at its place; where there are none, no other words do. It says nothing where there is no trace.
 pub fn solved(case: &RunCase, calls: &dyn Calls) -> Asked {
     let trace = calls.whole_trace(&case.table, case.bound);
     if trace.is_empty() {

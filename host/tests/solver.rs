@@ -1,5 +1,5 @@
-//! What z3 and cvc5 say of scripts: that they are asked and understood, that they accept what the archive writes, and that
-//! their answers are what judging and running say.
+//! What z3 and cvc5 say of scripts: that they are asked and understood, that they accept what the archive writes, and
+//! that their answers are what judging and running say.
 
 use std::time::Duration;
 
@@ -9,7 +9,7 @@ use host::cases::scripting as cases;
 use host::check::{first_failing, AnyCheck, Asked};
 use host::checks;
 use host::encoding;
-use host::hold::{hold, hold_features, test_seeds};
+use host::hold::{hold, hold_features, hold_hits, test_seeds, Hits};
 use host::model::{self, JudgeAnswer, ScriptAnswer};
 use host::parts::{has_opening, Parts};
 use host::solver::{Answer, Solver};
@@ -153,31 +153,26 @@ fn the_pinned_scripts_reach_every_verdict_of_every_kind_of_trace_and_every_trap(
 
 #[test]
 fn a_remainder_by_zero_decides_some_of_the_pinned_scripts() {
-    const LEAST: usize = 10;
     let seeds: Vec<u64> = test_seeds(checks::PINNED.count).collect();
-    let mut decided = 0;
+    let mut cases = 0;
     for seeds in seeds.chunks(BATCH) {
         let (due, scripts) = asked(seeds);
         let plain: Vec<String> = scripts.iter().map(|script| with_plain_remainders(script)).collect();
         let answers = Solver::Z3.decide_all(&plain, LIMIT).unwrap_or_else(|complaint| panic!("{complaint}"));
-        decided += due.iter().zip(answers).filter(|(due, answer)| *due != answer).count();
+        cases += due.iter().zip(answers).filter(|(due, answer)| *due != answer).count() as u64;
     }
-    println!("hit pinned: a remainder by zero decides {decided} of {} cases, {LEAST} are due", seeds.len());
-    assert!(decided >= LEAST, "{decided} of {} cases", seeds.len());
+    hold_hits(&checks::PINNED, [Hits { feature: "decided by a remainder by zero".into(), cases, least: 1_000 }]);
 }
 
 #[test]
 fn a_solution_is_unsafe_in_run_trace_and_slice_and_where_there_is_none_no_words_are() {
-    const LEAST: usize = 10;
-    let mut shown = [0, 0];
-    let tell = |asked: &Asked| shown[usize::from(asked.counts)] += 1;
+    let [mut sat, mut unsat] = [0, 0];
+    let tell = |asked: &Asked| *(if asked.counts { &mut sat } else { &mut unsat }) += 1;
     if let Some(seed) = first_failing(&checks::SOLVED, test_seeds(checks::SOLVED.count), ARCHIVE, tell) {
         panic!("{}", checks::SOLVED.report(seed, ARCHIVE));
     }
-    let [unsat, sat] = shown;
-    let line = format!("{sat} rules with a solution, {unsat} with none, {LEAST} of each are due");
-    println!("hit solved: {line}");
-    assert!(sat >= LEAST && unsat >= LEAST, "{line}");
+    let hits = [("a solution", sat), ("no solution", unsat)];
+    hold_hits(&checks::SOLVED, hits.map(|(feature, cases)| Hits { feature: feature.into(), cases, least: 20_000 }));
 }
 
 #[test]
