@@ -1,5 +1,5 @@
-//! What document 01 says of tables and traces, request 2026-01 of verdicts and request 2026-02 of scripts, in plain Rust:
-//! checked once, then run, unwound, judged, sliced or written as a script in place; and how a slice is printed.
+//! What document 01 says of tables and traces, request 2026-01 of verdicts and docs/SCRIPT.md of scripts, in plain
+//! Rust: checked once, then run, unwound, judged, sliced or written as a script in place; and how a slice is printed.
 
 mod end;
 mod expression;

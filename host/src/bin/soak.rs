@@ -1,6 +1,6 @@
-//! Any number of generated cases for every check, of the archive, with solvers too, and of the slice printer. CASES says how
-//! many, SEED where they begin, in place of the clock. CASE names one check, of which the case of SEED alone is asked, or a
-//! call, of which the case KNOWN by that name is.
+//! Any number of generated cases for every check, of the archive, with solvers too, and of the slice printer. CASES
+//! says how many, SEED where they begin, in place of the clock. CASE names one check, of which the case of SEED alone
+//! is asked, or a call, of which the case KNOWN by that name is.
 
 use std::collections::BTreeMap;
 use std::env;

@@ -1,5 +1,5 @@
-//! Cases of writing: tables to unwind or to print, traces to slice or to hand to a solver, written or not, and rooms around
-//! what they need.
+//! Cases of writing: tables to unwind or to print, traces to slice or to hand to a solver, written or not, and rooms
+//! around what they need.
 
 use super::draft::Draft;
 use super::expressions::NOT;
