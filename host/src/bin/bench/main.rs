@@ -9,32 +9,52 @@ use std::array;
 use std::hint::black_box;
 
 use host::case::{JudgeCase, RunCase};
+use host::cases::scripting;
 use host::parts::Parts;
-use host::written::{whole, LENGTH_LIMIT};
+use host::written::{whole, LENGTH_LIMIT, SCRIPT_ROOM};
 use host::{archive, model};
 use inputs::BOUNDS;
 use stack::stack_bytes;
 use timing::{time, Best};
 
 fn main() {
+    runs();
+    judgings();
+    traces();
+    slices();
+    scripts();
+    growths();
+    stack();
+}
+
+fn runs() {
     for bound in BOUNDS {
         run(&format!("the small rule, K={bound}"), inputs::small_rule(bound));
     }
     run("1,024 Asserts", inputs::thousand_asserts(0));
     run("deep expressions in a loop", inputs::deep_loop());
     run("refused in the last record", inputs::refused_table());
+}
+
+fn judgings() {
     for bound in BOUNDS {
         judge(&format!("the small rule, K={bound}"), inputs::unwound(inputs::small_rule(bound)));
     }
     judge("1,024 Asserts, K=1", inputs::unwound(inputs::thousand_asserts(1)));
     judge("deep expressions", inputs::idle_statements());
     judge("refused in the last record", inputs::refused_trace());
+}
+
+fn traces() {
     for bound in BOUNDS {
         trace(&format!("the small rule, K={bound}"), inputs::small_rule(bound));
     }
     trace("1,024 Asserts, K=1", inputs::thousand_asserts(1));
     trace("deep expressions, K=0", inputs::deep_rule());
     trace("refused in the last record", inputs::refused_table());
+}
+
+fn slices() {
     for bound in BOUNDS {
         slice(&format!("the small rule, K={bound}"), inputs::unwound(inputs::small_rule(bound)));
     }
@@ -42,13 +62,24 @@ fn main() {
     slice("deep expressions, all kept", inputs::deep_statements());
     slice("deep expressions, one kept", inputs::idle_statements());
     slice("refused in the last record", inputs::refused_trace());
+}
+
+fn scripts() {
+    for bound in [0, 255] {
+        script(&format!("the small rule, K={bound}"), &inputs::unwound(inputs::small_rule(bound)).trace);
+    }
+    script("1,024 Asserts, K=1", &inputs::unwound(inputs::thousand_asserts(1)).trace);
+    script("deep expressions", &inputs::deep_statements().trace);
+    script("the longest", &scripting::longest());
+}
+
+fn growths() {
     for n in [0, 1, 4, 16, 64, 256, 1024] {
         growth(n, 0);
     }
     for bound in [1, 3, 15, 63, 255] {
         growth(4, bound);
     }
-    stack();
 }
 
 fn run(name: &str, RunCase { table, bound, valuation }: RunCase) {
@@ -89,6 +120,18 @@ fn slice(name: &str, JudgeCase { trace, .. }: JudgeCase) {
     println!("{}", ratio(&format!("slice, {name}"), &best));
 }
 
+fn script(name: &str, trace: &[u8]) {
+    let [mut a, mut b] = [(); 2].map(|_| vec![0; SCRIPT_ROOM]);
+    let best = time(
+        || archive::script_length(black_box(trace), black_box(&mut a)),
+        || model::script(black_box(trace), black_box(&mut b)),
+    );
+    let letters = model::script(trace, &mut b).length;
+    let millions = f64::from(letters) / best.archive;
+    let name = format!("script, {name}");
+    println!("{}  {letters:7} letters, archive {millions:4.0} million a second", ratio(&name, &best));
+}
+
 /// The time of writing a trace for each of its statements, n of them in a copy beside its exit.
 fn growth(n: usize, bound: u64) {
     let table = inputs::alternating_table(n);
@@ -109,8 +152,8 @@ fn stack() {
         inputs::deep_loop(),
         inputs::refused_table(),
     ];
-    let mut most = [0; 4];
-    let mut out = vec![0; LENGTH_LIMIT];
+    let mut most = [0; 5];
+    let mut out = vec![0; SCRIPT_ROOM];
     for case in cases {
         let RunCase { table, bound, valuation } = &case;
         let trace = inputs::unwound(case.clone()).trace;
@@ -119,10 +162,11 @@ fn stack() {
             stack_bytes(|| archive::judge_verdict(&trace, valuation)),
             stack_bytes(|| archive::trace_length(table, *bound, &mut out)),
             stack_bytes(|| archive::slice_length(&trace, &mut out)),
+            stack_bytes(|| archive::script_length(&trace, &mut out)),
         ];
         most = array::from_fn(|i| most[i].max(uses[i]));
     }
-    for (name, bytes) in ["run", "judge", "trace", "slice"].into_iter().zip(most) {
+    for (name, bytes) in ["run", "judge", "trace", "slice", "script"].into_iter().zip(most) {
         println!("stack, {name:<31} archive {bytes:9} bytes");
     }
 }
