@@ -13,7 +13,9 @@ use Rattle.trace.specs.Cases.{smallTrace0}
 use Rattle.write.specs.Ascii.{ascii}
 use Rattle.write.specs.Decimal.{decimal}
 use Rattle.script.specs.Smt.{bvneg, bvsub, bvudiv, bvurem, bvshl, bvlshr, bvslt, bvUnary, bvBinary, related}
+use Rattle.script.specs.Smt.{hex, declared, slot, bind}
 use Rattle.script.specs.Script.{exprTerm, violation, scriptOf}
+use Rattle.script.specs.Scope.{among, closed, rising}
 use Rattle.script.specs.ScriptText.{constant, termText, scriptText}
 
 -- the small rule's trace under K = 0: its last Assign, behind the Assert, is there too
@@ -111,3 +113,9 @@ signs : (related 32 bvslt 4294967295 0 ≡ true) × (related 32 bvslt 0 42949672
     × (related 32 bvslt 2147483647 2147483648 ≡ false)
 unfolding related
 signs = (refl, refl, refl)
+
+-- a symbol that is not declared, or declared twice, and a variable outside its `let`'s body are told apart
+scopes : (among 2 (0 ∷ 2 ∷ []) ≡ true) × (among 1 (0 ∷ 2 ∷ []) ≡ false) × (rising 0 (0 ∷ 2 ∷ 3 ∷ []) ≡ true)
+    × (rising 0 (0 ∷ 2 ∷ 2 ∷ []) ≡ false) × (closed (λ s. among s (0 ∷ [])) (declared 1) ≡ false)
+    × (closed (λ s. false) (bind 0 (hex 1) (slot 0)) ≡ true) × (closed (λ s. false) (bind 0 (slot 0) (slot 0)) ≡ false)
+scopes = (refl, refl, refl, refl, refl, refl, refl)

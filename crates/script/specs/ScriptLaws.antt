@@ -36,7 +36,7 @@ use Rattle.trace.specs.Asserts.{isAssert, hasAssert, asserted}
 use Rattle.trace.specs.Past.{valuesPast, OfWords}
 use Rattle.trace.specs.PastLaws.{env-words, assign-words, past-words, past-keeps, Below, below-first, below-assign}
 use Rattle.trace.specs.PastLaws.{AgreeIn, value-in, past-equation}
-use Rattle.script.specs.Smt.{Relation, distinct, bvule, bvslt, bvUnary, bvBinary, related, Term, hex, slot, wordIn, wordOf}
+use Rattle.script.specs.Smt.{Relation, bvule, bvslt, bvUnary, bvBinary, related, Term, slot, wordIn, wordOf}
 use Rattle.script.specs.Smt.{Formula, both, holds, solves, satisfies}
 use Rattle.script.specs.SmtLaws.{sub-is, shl-is, lshr-is, ule-is, urem-is, slt-is}
 use Rattle.script.specs.Script.{unaryTerm, binaryTerm, tokenTerm, termFrom, exprTerm, numbersFrom, equationsOf, tested, violation}
@@ -151,9 +151,9 @@ no-assert-false : (τ : Env) (ts : List Stmt) → hasAssert ts ≡ false → hol
 unfolding violation holds
 no-assert-false τ [] h = refl
 no-assert-false τ (Assign p x e ∷ ts) h = no-assert-false τ ts h
-no-assert-false τ (Test Assume p e ∷ ts) h = both-false τ distinct (hex 0) (exprTerm e) (violation ts) (no-assert-false τ ts h)
+no-assert-false τ (Test Assume p e ∷ ts) h = both-false τ _ _ _ (violation ts) (no-assert-false τ ts h)
 no-assert-false τ (Test Assert p e ∷ ts) h = absurd (let z : _≡_ {A = ℕ} 0 1 = cc in omega arith)
-no-assert-false τ (Test Bound p e ∷ ts) h = both-false τ distinct (hex 0) (exprTerm e) (violation ts) (no-assert-false τ ts h)
+no-assert-false τ (Test Bound p e ∷ ts) h = both-false τ _ _ _ (violation ts) (no-assert-false τ ts h)
 
 tested-same : (τ : Env) (k : Kind) (e : List Token) (f g : Formula) → holds τ f ≡ holds τ g
     → holds τ (tested k e f) ≡ holds τ (tested k e g)
