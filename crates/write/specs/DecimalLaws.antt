@@ -1,6 +1,7 @@
--- How long a number is in decimal.
+-- How long a number is in decimal; and a single digit.
 use Prim.Native.Nat.{ℕ, zero, suc, _+_, _/_, _%_, _≤_, _<_}
 use native.Mathlib.Omega.{arith}
+use mathlib.Core.Path.{_≡_, ap}
 use mathlib.Core.Bool.{Bool, true, false, cond}
 use mathlib.Core.List.{[], _∷_, _++_}
 use lib.ListN.{length, length-append}
@@ -32,3 +33,7 @@ two-digits n h = go (ltb n 10) (one-digit 8 (n / 10) (omega arith))
         ≤ 2
     go true l = omega arith
     go false l = omega (arith, length-append (decimalUpTo 9 (n / 10)) ((48 + n % 10) ∷ []))
+
+pub digit-is : (n : ℕ) → n < 10 → decimal n ≡ (48 + n) ∷ []
+unfolding decimal
+digit-is n h = ap (λ b. cond b ((48 + n) ∷ []) (decimalUpTo 9 (n / 10) ++ (48 + n % 10) ∷ [])) (lt-ltb n 10 h)

@@ -6,7 +6,7 @@ use native.Mathlib.Nat.{add-zero, add-suc, suc-add, add-assoc, zero-add}
 use mathlib.Core.Path.{_≡_, refl, sym, ap, _∙_}
 use mathlib.Core.List.{List, [], _∷_, _++_}
 use lib.ListN.{length, drop, set, length-append}
-use lib.Seq.{sets, length-sets, sets-eq, set-comm}
+use lib.Seq.{sets, length-sets, sets-eq, set-comm, set-out}
 use Rattle.write.specs.Splice.{splice, Wrote, over}
 
 -- ---- bytes stored
@@ -18,6 +18,12 @@ splice-nil at xs = refl
 pub length-splice : (at : ℕ) (bs xs : List ℕ) → length (splice at bs xs) ≡ length xs
 unfolding splice
 length-splice at bs xs = length-sets xs at bs
+
+-- behind the end nothing is stored
+pub splice-past : (at : ℕ) (bs xs : List ℕ) → length xs ≤ at → splice at bs xs ≡ xs
+unfolding splice
+splice-past at [] xs h = refl
+splice-past at (b ∷ bs) xs h = ap (λ ys. sets ys (suc at) bs) (set-out xs at b h) ∙ splice-past (suc at) bs xs (omega arith)
 
 -- two that meet are one
 pub splice-append : (at : ℕ) (a b xs : List ℕ) → splice (at + length a) b (splice at a xs) ≡ splice at (a ++ b) xs

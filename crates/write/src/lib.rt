@@ -112,7 +112,8 @@ pub fn fit_byte(b: u8, out: &mut [u8], at: usize) -> usize
     at + 1
 }
 
-pub fn fit_part(part: &[u8], out: &mut [u8], at: usize) -> usize
+// Byte after byte.
+fn fit_each(part: &[u8], out: &mut [u8], at: usize) -> usize
     requires { ⌜ at + length (now part) < 2 ^ 64 ⌝ }
     ensures { λ r. ⌜ Wrote (now (out .entry)) at (now (part .entry)) (now (out .exit)) r ⌝ }
 {
@@ -123,6 +124,21 @@ pub fn fit_part(part: &[u8], out: &mut [u8], at: usize) -> usize
         i += 1;
     }
     at + i
+}
+
+// All of it at once, or none of it, where that is known from the start.
+pub fn fit_part(part: &[u8], out: &mut [u8], at: usize) -> usize
+    requires { ⌜ at + length (now part) < 2 ^ 64 ⌝ }
+    ensures { λ r. ⌜ Wrote (now (out .entry)) at (now (part .entry)) (now (out .exit)) r ⌝ }
+{
+    let end = at + part.len();
+    if end <= out.len() {
+        return put_part(part, out, at);
+    }
+    if out.len() <= at {
+        return end;
+    }
+    fit_each(part, out, at)
 }
 
 // How many digits a number has.
@@ -138,7 +154,8 @@ fn digits(v: u32) -> usize
     k
 }
 
-pub fn fit_decimal(v: u32, out: &mut [u8], at: usize) -> usize
+// Digit after digit, from the last one.
+fn fit_digits(v: u32, out: &mut [u8], at: usize) -> usize
     requires { ⌜ at + 10 < 2 ^ 64 ⌝ }
     ensures { λ r. ⌜ Wrote (now (out .entry)) at (decimal v) (now (out .exit)) r × (r ≤ at + 10) ⌝ }
 {
@@ -152,4 +169,14 @@ pub fn fit_decimal(v: u32, out: &mut [u8], at: usize) -> usize
         rest /= 10;
     }
     at + k
+}
+
+pub fn fit_decimal(v: u32, out: &mut [u8], at: usize) -> usize
+    requires { ⌜ at + 10 < 2 ^ 64 ⌝ }
+    ensures { λ r. ⌜ Wrote (now (out .entry)) at (decimal v) (now (out .exit)) r × (r ≤ at + 10) ⌝ }
+{
+    if v < 10 {
+        return fit_byte(48 + v as u8, out, at);
+    }
+    fit_digits(v, out, at)
 }

@@ -1,83 +1,48 @@
--- The digits are stored from the last to the first; those still to be stored are the last ones of what is left (`Storing`).
+-- A single digit is a byte.
+use borrow.Author.Needs.{needs}
+use native.Mathlib.Omega.{arith}
+use mathlib.Core.Path.{sym}
+use Rattle.write.specs.SpliceLaws.{wrote-as}
+use Rattle.write.specs.DecimalLaws.{digit-is}
 use Rattle.write.proofs.fit_decimal.Statement.{statement}
 use Rattle.write.proofs.fit_decimal.Tie as tie
-use native.Mathlib.Omega.{arith}
-use Prim.Native.Nat.{_-_, _/_}
-use mathlib.Core.Path.{sym, subst}
-use borrow.Author.Needs.{needs}
-use Rattle.write.proofs.Decimal.{Storing, storing-start, storing-length, store-on, stored}
 
-abbrev Inv-loop : tie.InvT-loop
-Inv-loop v out₀ at k i₀ rest₀ out i rest = Storing v out₀ at k out i rest
+cast-fit-byte : tie.Need-cast-fit-byte
+cast-fit-byte c = search needs
 
-abbrev μ-loop : tie.MeasureT-loop
-μ-loop v out₀ at k i₀ rest₀ out i rest = i
+add-fit-byte : tie.Need-add-fit-byte
+add-fit-byte c = search needs
 
-digits-requires : tie.Need-digits-requires Inv-loop μ-loop
-digits-requires c κs = search needs
+fit-byte-requires : tie.Need-fit-byte-requires
+fit-byte-requires c κs = search needs
 
-loop-holds : tie.Need-loop-holds Inv-loop μ-loop
-loop-holds c = storing-start _ _ _ _
+same-length : tie.Need-same-length
+same-length c = search needs
 
-sub-i : tie.Need-sub-i Inv-loop μ-loop
-sub-i c = search needs
+returns : tie.Need-returns
+returns c =
+    let fit-byte = c .before .before .fit-byte in
+    let if1 = c .before .before .before .before .if1 in
+    (wrote-as (sym (digit-is _ (if1 .taken))) (fit-byte .ensures), omega (arith, fit-byte .ensures .next))
 
-cast-digit : tie.Need-cast-digit Inv-loop μ-loop
-cast-digit c = search needs
+fit-digits-requires : tie.Need-fit-digits-requires
+fit-digits-requires c κs = search needs
 
-add-digit : tie.Need-add-digit Inv-loop μ-loop
-add-digit c = search needs
+same-length-2 : tie.Need-same-length-2
+same-length-2 c = search needs
 
-add-store : tie.Need-add-store Inv-loop μ-loop
-add-store c =
-    omega (
-      arith,
-      c .before .before .loop .inv .inside,
-      c .before .before .before .digits .ensures .2,
-      c .before .before .before .before .before .pre,
-      c .before .loop-test .taken,
-    )
-
-store-requires : tie.Need-store-requires Inv-loop μ-loop
-store-requires c κs = search needs
-
-loop-less : tie.Need-loop-less Inv-loop μ-loop
-loop-less c = omega (arith, c .before .before .before .before .loop-test .taken)
-
-loop-again : tie.Need-loop-again Inv-loop μ-loop
-loop-again c =
-    let v = c .before .before .before .before .before .loop in
-    let start = c .before .before .before .before .before .before .before .before .args in
-    subst (λ o. Storing (start .v) (start .out .now) (start .at) (c .before .before .before .before .before .before .digits .result) o
-    (v .i - 1) (v .rest / 10))
-    (sym (c .before .before .store .ensures))
-    (store-on (v .inv) (v .i - 1) (omega (arith, c .before .before .before .before .loop-test .taken)))
-
-add-result : tie.Need-add-result Inv-loop μ-loop
-add-result c = omega (arith, c .before .before .digits .ensures .2, c .before .before .before .before .pre)
-
-same-length : tie.Need-same-length Inv-loop μ-loop
-same-length c = storing-length (c .before .loop .inv)
-
-returns : tie.Need-returns Inv-loop μ-loop
-returns c = let d = c .before .before .digits .ensures in
-    (stored (c .before .loop .inv) (omega (arith, c .loop-test .left)) (d .0), omega (arith, d .2))
+returns-2 : tie.Need-returns-2
+returns-2 c = search needs
 
 pub fit-decimal-spec : {M : Type 1} → statement M
 fit-decimal-spec =
     tie.close
     (tie.spec
-    Inv-loop
-    μ-loop
-    digits-requires
-    loop-holds
-    sub-i
-    cast-digit
-    add-digit
-    add-store
-    store-requires
-    loop-less
-    loop-again
-    add-result
+    cast-fit-byte
+    add-fit-byte
+    fit-byte-requires
     same-length
-    returns)
+    returns
+    fit-digits-requires
+    same-length-2
+    returns-2)
