@@ -32,9 +32,11 @@ use Rattle.slice.specs.SliceLaws.{slice-ok}
 use Rattle.script.specs.Smt.{satisfies}
 use Rattle.script.specs.Script.{scriptOf, inputsOf}
 use Rattle.script.specs.ScriptLaws.{inputs-length, inputs-words, model-violates, sat-iff}
+use Rattle.script.specs.Scope.{WellScoped}
 use Rattle.script.specs.ScriptText.{textOf}
 use Rattle.script.specs.Answer.{scriptAnswer}
-use Rattle.script.specs.BytesLaws.{script-accepted, script-done, script-bytes, script-judges, model-judged-unsafe, script-sat}
+use Rattle.script.specs.BytesLaws.{script-accepted, script-done, script-bytes, script-well-scoped, script-judges, model-judged-unsafe}
+use Rattle.script.specs.BytesLaws.{script-sat}
 use Rattle.demands.specs.Solver.{askedBy, AsksFor, Violated, Posed, Fails, Asks, Solver}
 use Rattle.demands.proofs.Demand3Proof.{read-back, slice-back, slice-answer, run-done, run-alike, slice-as-run}
 
@@ -66,6 +68,7 @@ module _ (s : List ℕ) (head : Head) (ts : List Stmt) (is : readTrace s ≡ Acc
   posed-accepted : All Byte s → Posed s
   posed-accepted o = record {
     text = λ room done. script-bytes s head ts is room done ∙ ap textOf (sym is-script);
+    scoped = subst WellScoped (sym is-script) (script-well-scoped s head ts is o);
     at-its-values = λ v l w.
         subst (λ us. (satisfies (valuesPast us (envOf v)) (askedBy s) ≡ true) ↔ ((judgeAnswer s v) .verdict ≡ 1)) (sym (ap listed is))
         (subst (λ c. (satisfies (valuesPast ts (envOf v)) c ≡ true) ↔ ((judgeAnswer s v) .verdict ≡ 1)) (sym is-script)

@@ -18,6 +18,7 @@ use Rattle.trace.specs.Past.{valuesPast, OfWords}
 use Rattle.slice.specs.Answer.{sliceAnswer}
 use Rattle.script.specs.Smt.{Script, satisfies}
 use Rattle.script.specs.Script.{scriptOf, inputsOf}
+use Rattle.script.specs.Scope.{WellScoped}
 use Rattle.script.specs.ScriptText.{textOf}
 use Rattle.script.specs.Answer.{scriptAnswer}
 
@@ -44,6 +45,8 @@ pub record Violated (s v : List ℕ) : Type 0 where
 pub record Posed (s : List ℕ) : Type 0 where
   -- what is written is its text
   pub text : (room : ℕ) → (scriptAnswer s room) .reply ≡ 0 → (scriptAnswer s room) .bytes ≡ textOf (askedBy s)
+  -- every name in it is declared, or bound by a `let` around it, and none is declared twice
+  pub scoped : WellScoped (askedBy s)
   -- it holds with the assigned symbols at their trace values, worked out past any stop, exactly if the trace is judged unsafe
   pub at-its-values : (v : List ℕ) → length v ≡ headerInputs s → All Word v
       → (satisfies (valuesPast (listed (readTrace s)) (envOf v)) (askedBy s) ≡ true) ↔ ((judgeAnswer s v) .verdict ≡ 1)
