@@ -75,6 +75,16 @@ calls! {
     }
 }
 
+extern "C" {
+    fn kadvitul_version() -> u32;
+}
+
+/// 10,000 times the first number, 100 times the second, and the third.
+pub fn version() -> u32 {
+    // SAFETY: it is given nothing and touches nothing.
+    unsafe { kadvitul_version() }
+}
+
 /// The calls as they are.
 pub const ARCHIVE: &dyn Calls = &Archive;
 

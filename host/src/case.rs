@@ -4,6 +4,7 @@ use std::fmt::{self, Display};
 
 use crate::answer::Answer;
 use crate::archive::{Calls, ARCHIVE};
+use crate::hex::text as hex;
 use crate::model::{self, JudgeAnswer, RunAnswer, ScriptAnswer, SliceAnswer, TraceAnswer};
 use crate::program::Printed;
 use crate::written::{lend, Written};
@@ -329,9 +330,4 @@ fn write_trace_and_room(f: &mut fmt::Formatter, trace: &[u8], room: usize) -> fm
 fn array(bytes: &[u8]) -> String {
     let items: Vec<String> = bytes.iter().map(|byte| format!("{byte:#04x}")).collect();
     format!("[{}]", items.join(", "))
-}
-
-fn hex(bytes: &[u8]) -> String {
-    let items: Vec<String> = bytes.iter().map(|byte| format!("{byte:02X}")).collect();
-    items.join(" ")
 }

@@ -19,6 +19,6 @@ pub fn term(operator: &str, words: &str) -> String {
 }
 
 /// One word of a shell.
-fn quoted(text: &str) -> String {
+pub fn quoted(text: &str) -> String {
     format!("'{}'", text.replace('\'', r"'\''"))
 }

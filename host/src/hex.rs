@@ -21,6 +21,12 @@ pub fn bytes(text: &str) -> Result<Vec<u8>, NoByte> {
     Ok(bytes)
 }
 
+/// Bytes as such a text, on one line.
+pub fn text(bytes: &[u8]) -> String {
+    let words: Vec<String> = bytes.iter().map(|byte| format!("{byte:02X}")).collect();
+    words.join(" ")
+}
+
 fn byte(word: &str) -> Option<u8> {
     let is_byte = word.len() == 2 && word.bytes().all(|letter| letter.is_ascii_hexdigit());
     if is_byte {

@@ -5,7 +5,8 @@ use std::str::FromStr;
 use crate::encoding;
 use crate::statement::{assert, assign, assume, bound, read as symbol_token};
 
-const OPERATORS: [(&str, u8); 18] = [
+/// Each operator's name and byte.
+pub const OPERATORS: [(&str, u8); 18] = [
     ("not", 0x10),
     ("neg", 0x11),
     ("zero", 0x12),

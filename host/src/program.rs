@@ -1,5 +1,6 @@
 //! The slice printer, run as the program that `rt check print_slice` builds.
 
+use std::io;
 use std::path::Path;
 use std::process::Command;
 
@@ -33,6 +34,11 @@ pub fn find() -> Result<(), String> {
 
 pub fn print_slice(input: &[u8]) -> Printed {
     find().unwrap_or_else(|missing| panic!("{missing}"));
-    let output = process::run(&mut Command::new(PROGRAM), input).unwrap_or_else(|error| panic!("{PROGRAM}: {error}"));
-    Printed { text: output.stdout, exit_status: output.status.code(), is_error_empty: output.stderr.is_empty() }
+    feed_to(&mut Command::new(PROGRAM), input).unwrap_or_else(|error| panic!("{PROGRAM}: {error}"))
+}
+
+/// What a program leaves that is given an input.
+pub fn feed_to(command: &mut Command, input: &[u8]) -> io::Result<Printed> {
+    let output = process::run(command, input)?;
+    Ok(Printed { text: output.stdout, exit_status: output.status.code(), is_error_empty: output.stderr.is_empty() })
 }
