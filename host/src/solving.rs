@@ -1,4 +1,4 @@
-//! What solvers say of a script, against what the calls say of its trace and of its table.
+//! What solvers say of scripts, alone or many in one go, against what the calls say of their traces and of their tables.
 
 use std::time::Duration;
 
@@ -9,7 +9,7 @@ use crate::check::Asked;
 use crate::encoding;
 use crate::generate::random::Random;
 use crate::generate::right_valuation;
-use crate::solver::{Answer, Solver};
+use crate::solver::{Answer, Failure, Printed, Solver};
 use crate::verdict::UNSAFE;
 
 /// More than any script that is asked here takes.
@@ -19,6 +19,65 @@ pub const LIMIT: Duration = Duration::from_secs(120);
 const TRIES: usize = 200;
 
 const LAST_LINE: &[u8] = b"(check-sat)\n";
+
+/// What a solver says of a script.
+#[derive(Clone, Copy, Debug, PartialEq, Eq)]
+pub enum Says {
+    Sat,
+    Unsat,
+}
+
+/// Says which solver is missing.
+pub fn find() -> Result<(), String> {
+    Solver::ALL.iter().try_for_each(|solver| printed(solver, vec![]).map(drop))
+}
+
+pub fn decide(solver: &Solver, script: &[u8]) -> Result<Says, String> {
+    Ok(decide_all(solver, &[script])?[0])
+}
+
+/// Answers each of several scripts in one go.
+pub fn decide_all<S: AsRef<[u8]>>(solver: &Solver, scripts: &[S]) -> Result<Vec<Says>, String> {
+    let texts: Vec<&[u8]> = scripts.iter().map(AsRef::as_ref).collect();
+    let printed = printed(solver, texts.join(&b"(reset)\n"[..]))?;
+    let answers: Option<Vec<Says>> = printed.lines().map(says).collect();
+    let answers = answers.filter(|answers| answers.len() == scripts.len());
+    answers.ok_or_else(|| complaint(solver, "prints", &printed))
+}
+
+fn says(line: &str) -> Option<Says> {
+    match line {
+        "sat" => Some(Says::Sat),
+        "unsat" => Some(Says::Unsat),
+        _ => None,
+    }
+}
+
+/// Words for a script's inputs that satisfy it; none where it cannot be satisfied.
+pub fn solve(solver: &Solver, script: &[u8], inputs: u8) -> Result<Option<Vec<u32>>, String> {
+    let names: Vec<String> = (0..inputs).map(|input| format!("s{input}")).collect();
+    match solver.ask(script, &names, LIMIT) {
+        Ok(Answer::Sat { words, .. }) => Ok(Some(words)),
+        Ok(Answer::Unsat) => Ok(None),
+        Err(failure) => Err(failed(solver, &failure)),
+    }
+}
+
+/// All that a solver prints for a text of commands.
+pub fn printed(solver: &Solver, text: Vec<u8>) -> Result<String, String> {
+    let Printed { output, errors, .. } = solver.print(text, LIMIT).map_err(|failure| failed(solver, &failure))?;
+    Ok(output + &errors)
+}
+
+fn failed(solver: &Solver, Failure { fault, output, errors }: &Failure) -> String {
+    complaint(solver, &format!("{fault}, and prints"), &format!("{output}{errors}"))
+}
+
+/// With the first lines that are no answer.
+fn complaint(solver: &Solver, what: &str, printed: &str) -> String {
+    let lines: Vec<&str> = printed.lines().filter(|line| says(line).is_none()).take(5).collect();
+    format!("{} {what} {} lines, and among them: {}", solver.name(), printed.lines().count(), lines.join("; "))
+}
 
 /// A script that asks about these words for its inputs alone.
 pub fn pin(script: &[u8], valuation: &[u8]) -> Vec<u8> {
@@ -38,11 +97,11 @@ pub fn with_plain_remainders(script: &str) -> String {
 }
 
 /// What is due of a trace's script whose inputs are pinned.
-pub fn due(JudgeCase { trace, valuation }: &JudgeCase, calls: &dyn Calls) -> Answer {
+pub fn due(JudgeCase { trace, valuation }: &JudgeCase, calls: &dyn Calls) -> Says {
     if calls.judge_verdict(trace, valuation) == UNSAFE {
-        return Answer::Sat;
+        return Says::Sat;
     }
-    Answer::Unsat
+    Says::Unsat
 }
 
 /// Both solvers answer the script, and alike. It says nothing of a refused case.
@@ -52,8 +111,8 @@ pub fn accepted(case: &ScriptCase, calls: &dyn Calls) -> Asked {
         return Asked { reply, counts: false, wrong: vec![] };
     }
     let script = calls.whole_script(&case.trace);
-    match Solver::Z3.decide(&script, LIMIT) {
-        Ok(due) => Asked { reply, counts: due == Answer::Sat, wrong: answers_but(due, &[Solver::Cvc5], &script) },
+    match decide(&Solver::Z3, &script) {
+        Ok(due) => Asked { reply, counts: due == Says::Sat, wrong: answers_but(due, &[Solver::Cvc5], &script) },
         Err(complaint) => Asked { reply, counts: false, wrong: vec![complaint] },
     }
 }
@@ -67,12 +126,12 @@ pub fn pinned(case: &JudgeCase, calls: &dyn Calls) -> Asked {
     }
     let due = due(case, calls);
     let script = pin(&calls.whole_script(&case.trace), &case.valuation);
-    Asked { reply, counts: due == Answer::Sat, wrong: answers_but(due, &Solver::ALL, &script) }
+    Asked { reply, counts: due == Says::Sat, wrong: answers_but(due, &Solver::ALL, &script) }
 }
 
 /// A line for each solver that does not give the answer.
-fn answers_but(due: Answer, solvers: &[Solver], script: &[u8]) -> Vec<String> {
-    let difference = |solver: &Solver| match solver.decide(script, LIMIT) {
+fn answers_but(due: Says, solvers: &[Solver], script: &[u8]) -> Vec<String> {
+    let difference = |solver: &Solver| match decide(solver, script) {
         Ok(answer) => (answer != due).then(|| format!("{} says {answer:?}, not {due:?}", solver.name())),
         Err(complaint) => Some(complaint),
     };
@@ -88,7 +147,7 @@ pub fn solved(case: &RunCase, calls: &dyn Calls) -> Asked {
     }
     let scripts = [&trace, &calls.whole_slice(&trace)].map(|trace| calls.whole_script(trace));
     let asked = Solver::ALL.iter().flat_map(|solver| scripts.iter().map(move |script| (solver, script)));
-    let solutions: Vec<_> = asked.map(|(solver, script)| solver.solve(script, trace[3], LIMIT)).collect();
+    let solutions: Vec<_> = asked.map(|(solver, script)| solve(solver, script, trace[3])).collect();
     let counts = solutions.iter().all(|solution| matches!(solution, Ok(Some(_))));
     let wrong = solutions.into_iter().flat_map(|solution| match solution {
         Ok(Some(words)) => refute_solution(&with_words(case, &words), calls),

@@ -2,7 +2,6 @@
 
 use std::env;
 use std::sync::LazyLock;
-use std::time::Duration;
 
 use host::case::{Case, JudgeCase};
 use host::command;
@@ -10,6 +9,7 @@ use host::encoding;
 use host::generate::random::Random;
 use host::model::JudgeAnswer;
 use host::solver::{self, Solver};
+use host::solving;
 use host::statement::{assert, assign, read};
 use host::verdict::UNSAFE;
 
@@ -55,8 +55,6 @@ const EDGES: [u32; 24] = [
     0, 1, 2, 3, 7, 10, 31, 32, 33, 63, 64, 255, 256, 65535, 65536, 65537, 0x55555555, 0x7FFFFFFE, 0x7FFFFFFF,
     0x80000000, 0x80000001, 0xAAAAAAAA, 0xFFFFFFFE, 0xFFFFFFFF,
 ];
-/// z3 takes a few seconds for all.
-const LIMIT: Duration = Duration::from_secs(120);
 /// How often each operator is given random operands.
 const RANDOM_TRIES: usize = 500;
 
@@ -142,7 +140,7 @@ fn standard() -> &'static [(Term, u32)] {
 
 fn ask_z3() -> Result<Vec<(Term, u32)>, String> {
     let terms = terms();
-    let text = Solver::Z3.ask(script(&terms).as_bytes(), LIMIT)?;
+    let text = solving::printed(&Solver::Z3, script(&terms).into_bytes())?;
     let words: Vec<u32> = text.lines().map(word_of).collect::<Result<_, _>>()?;
     if words.len() != terms.len() {
         return Err(format!("z3 answers {} of {} terms", words.len(), terms.len()));
@@ -151,7 +149,7 @@ fn ask_z3() -> Result<Vec<(Term, u32)>, String> {
 }
 
 fn word_of(line: &str) -> Result<u32, String> {
-    solver::word(line).ok_or_else(|| format!("z3 answers no word: {line}"))
+    solver::literal(line).ok_or_else(|| format!("z3 answers no word: {line}"))
 }
 
 fn script(terms: &[Term]) -> String {

@@ -12,8 +12,8 @@ use host::encoding;
 use host::hold::{hold, hold_features, hold_hits, test_seeds, Hits};
 use host::model::{self, JudgeAnswer, ScriptAnswer};
 use host::parts::{has_opening, Parts};
-use host::solver::{Answer, Solver};
-use host::solving::{due, pin, with_plain_remainders, LIMIT};
+use host::solver::{Fault, Solver};
+use host::solving::{decide, decide_all, due, pin, solve, with_plain_remainders, Says};
 use host::verdict::{self, ENDED, UNSAFE};
 use host::written::{whole_within, Written, SCRIPT_ROOM};
 
@@ -73,20 +73,20 @@ const HARD: &[u8] = b"(set-logic QF_BV)
 #[test]
 fn scripts_are_answered_alone_and_together() {
     for solver in Solver::ALL {
-        assert_eq!(solver.decide(TWO_INPUTS, LIMIT), Ok(Answer::Sat));
-        assert_eq!(solver.decide(NONE, LIMIT), Ok(Answer::Unsat));
-        let answers = solver.decide_all(&[NONE, TWO_INPUTS, TWO_INPUTS, NONE, ANY], LIMIT);
-        assert_eq!(answers, Ok(vec![Answer::Unsat, Answer::Sat, Answer::Sat, Answer::Unsat, Answer::Sat]));
-        assert_eq!(solver.decide_all::<&[u8]>(&[], LIMIT), Ok(vec![]));
+        assert_eq!(decide(&solver, TWO_INPUTS), Ok(Says::Sat));
+        assert_eq!(decide(&solver, NONE), Ok(Says::Unsat));
+        let answers = decide_all(&solver, &[NONE, TWO_INPUTS, TWO_INPUTS, NONE, ANY]);
+        assert_eq!(answers, Ok(vec![Says::Unsat, Says::Sat, Says::Sat, Says::Unsat, Says::Sat]));
+        assert_eq!(decide_all::<&[u8]>(&solver, &[]), Ok(vec![]));
     }
 }
 
 #[test]
 fn inputs_are_read_in_the_digits_of_either_solver() {
     for solver in Solver::ALL {
-        assert_eq!(solver.solve(TWO_INPUTS, 2, LIMIT), Ok(Some(vec![5, u32::MAX - 1])));
-        assert_eq!(solver.solve(ANY, 0, LIMIT), Ok(Some(vec![])));
-        assert_eq!(solver.solve(NONE, 0, LIMIT), Ok(None));
+        assert_eq!(solve(&solver, TWO_INPUTS, 2), Ok(Some(vec![5, u32::MAX - 1])));
+        assert_eq!(solve(&solver, ANY, 0), Ok(Some(vec![])));
+        assert_eq!(solve(&solver, NONE, 0), Ok(None));
     }
 }
 
@@ -94,11 +94,11 @@ fn inputs_are_read_in_the_digits_of_either_solver() {
 fn what_is_printed_instead_of_an_answer_is_said() {
     let unknown = [b"(assert (= s0 s0))\n", TWO_INPUTS].concat();
     for solver in Solver::ALL {
-        for complaint in [solver.decide(&unknown, LIMIT).map(drop), solver.solve(TWO_INPUTS, 3, LIMIT).map(drop)] {
+        for complaint in [decide(&solver, &unknown).map(drop), solve(&solver, TWO_INPUTS, 3).map(drop)] {
             let complaint = complaint.expect_err("no answer");
-            assert!(complaint.contains(solver.name()) && complaint.contains("error"), "{complaint}");
+            assert!(complaint.contains(&solver.name()) && complaint.contains("error"), "{complaint}");
         }
-        let none = solver.decide_all(&[&b""[..], ANY], LIMIT).expect_err("one answer for two");
+        let none = decide_all(&solver, &[&b""[..], ANY]).expect_err("one answer for two");
         assert!(none.contains("prints 1 lines"), "{none}");
     }
 }
@@ -106,8 +106,8 @@ fn what_is_printed_instead_of_an_answer_is_said() {
 #[test]
 fn a_solver_is_ended_when_its_time_is_over() {
     for solver in Solver::ALL {
-        let complaint = solver.decide(HARD, Duration::from_secs(1)).expect_err("no answer");
-        assert!(complaint.contains("timeout"), "{complaint}");
+        let failure = solver.ask::<&str>(HARD, &[], Duration::from_secs(1)).expect_err("no answer");
+        assert_eq!(failure.fault, Fault::Silent(Duration::from_secs(1)));
     }
 }
 
@@ -115,9 +115,9 @@ fn a_solver_is_ended_when_its_time_is_over() {
 fn the_documents_example_is_unsafe_for_0_alone() {
     let script = cases::example().as_bytes();
     for solver in Solver::ALL {
-        assert_eq!(solver.solve(script, 1, LIMIT), Ok(Some(vec![0])));
-        assert_eq!(solver.decide(&pin(script, &encoding::valuation(&[0])), LIMIT), Ok(Answer::Sat));
-        assert_eq!(solver.decide(&pin(script, &encoding::valuation(&[1])), LIMIT), Ok(Answer::Unsat));
+        assert_eq!(solve(&solver, script, 1), Ok(Some(vec![0])));
+        assert_eq!(decide(&solver, &pin(script, &encoding::valuation(&[0]))), Ok(Says::Sat));
+        assert_eq!(decide(&solver, &pin(script, &encoding::valuation(&[1]))), Ok(Says::Unsat));
     }
 }
 
@@ -138,12 +138,12 @@ fn the_scripts_to_be_answered_are_of_written_of_sliced_and_of_free_traces() {
 
 #[test]
 fn z3_satisfies_a_pinned_script_exactly_where_its_trace_is_unsafe() {
-    hold_pinned(Solver::Z3);
+    hold_pinned(&Solver::Z3);
 }
 
 #[test]
 fn cvc5_satisfies_a_pinned_script_exactly_where_its_trace_is_unsafe() {
-    hold_pinned(Solver::Cvc5);
+    hold_pinned(&Solver::Cvc5);
 }
 
 #[test]
@@ -158,7 +158,7 @@ fn a_remainder_by_zero_decides_some_of_the_pinned_scripts() {
     for seeds in seeds.chunks(BATCH) {
         let (due, scripts) = asked(seeds);
         let plain: Vec<String> = scripts.iter().map(|script| with_plain_remainders(script)).collect();
-        let answers = Solver::Z3.decide_all(&plain, LIMIT).unwrap_or_else(|complaint| panic!("{complaint}"));
+        let answers = decide_all(&Solver::Z3, &plain).unwrap_or_else(|complaint| panic!("{complaint}"));
         cases += due.iter().zip(answers).filter(|(due, answer)| *due != answer).count() as u64;
     }
     hold_hits(&checks::PINNED, [Hits { feature: "decided by a remainder by zero".into(), cases, least: 1_000 }]);
@@ -181,9 +181,9 @@ fn the_longest_script_has_3997395_letters_and_both_solvers_answer_it() {
     let script = ARCHIVE.whole_script(&trace);
     assert_eq!(script.len(), 3_997_395);
     assert!(script.len() <= SCRIPT_ROOM);
-    hold_solution(Solver::Z3, &trace);
+    hold_solution(&Solver::Z3, &trace);
     for solver in Solver::ALL {
-        hold_pins(solver, &trace, &[[7; 64]]);
+        hold_pins(&solver, &trace, &[[7; 64]]);
     }
 }
 
@@ -196,9 +196,9 @@ fn the_room_for_every_script_is_the_headers() {
 #[test]
 fn both_solvers_answer_4096_nested_tests() {
     let trace = cases::most_tests();
-    hold_solution(Solver::Z3, &trace);
+    hold_solution(&Solver::Z3, &trace);
     for solver in Solver::ALL {
-        hold_pins(solver, &trace, &[[4094], [4095], [4096], [2]]);
+        hold_pins(&solver, &trace, &[[4094], [4095], [4096], [2]]);
     }
 }
 
@@ -206,34 +206,34 @@ fn both_solvers_answer_4096_nested_tests() {
 fn both_solvers_answer_an_expression_of_65001_tokens() {
     let trace = cases::most_tokens();
     for solver in Solver::ALL {
-        hold_solution(solver, &trace);
-        hold_pins(solver, &trace, &[[0], [1]]);
+        hold_solution(&solver, &trace);
+        hold_pins(&solver, &trace, &[[0], [1]]);
     }
 }
 
 /// A solution is there, and is unsafe.
-fn hold_solution(solver: Solver, trace: &[u8]) {
-    let solution = solver.solve(&ARCHIVE.whole_script(trace), trace[3], LIMIT);
+fn hold_solution(solver: &Solver, trace: &[u8]) {
+    let solution = solve(solver, &ARCHIVE.whole_script(trace), trace[3]);
     let words = solution.unwrap_or_else(|complaint| panic!("{complaint}")).expect("a solution");
     assert_eq!(ARCHIVE.judge(trace, &encoding::valuation(&words)).verdict, UNSAFE, "{words:?}");
 }
 
 /// Pinned to each of several valuations, the answer is what judging says.
-fn hold_pins<const N: usize>(solver: Solver, trace: &[u8], valuations: &[[u32; N]]) {
+fn hold_pins<const N: usize>(solver: &Solver, trace: &[u8], valuations: &[[u32; N]]) {
     let script = ARCHIVE.whole_script(trace);
     let cases =
         valuations.iter().map(|words| JudgeCase { trace: trace.to_vec(), valuation: encoding::valuation(words) });
     let (due, scripts): (Vec<_>, Vec<_>) =
         cases.map(|case| (due(&case, ARCHIVE), pin(&script, &case.valuation))).unzip();
-    assert_eq!(solver.decide_all(&scripts, LIMIT), Ok(due), "{} of {valuations:?}", solver.name());
+    assert_eq!(decide_all(solver, &scripts), Ok(due), "{} of {valuations:?}", solver.name());
 }
 
 /// Asks a solver of many cases in one go; where it fails it is asked again, of one case after another.
-fn hold_pinned(solver: Solver) {
+fn hold_pinned(solver: &Solver) {
     let seeds: Vec<u64> = test_seeds(checks::PINNED.count).collect();
     for seeds in seeds.chunks(BATCH) {
         let (due, scripts) = asked(seeds);
-        let answers = solver.decide_all(&scripts, LIMIT);
+        let answers = decide_all(solver, &scripts);
         if answers != Ok(due) {
             let failing = first_failing(&checks::PINNED, seeds.iter().copied(), ARCHIVE, |_| {});
             let report = failing.map(|seed| checks::PINNED.report(seed, ARCHIVE));
@@ -243,7 +243,7 @@ fn hold_pinned(solver: Solver) {
 }
 
 /// For each seed what is due, and the pinned script.
-fn asked(seeds: &[u64]) -> (Vec<Answer>, Vec<String>) {
+fn asked(seeds: &[u64]) -> (Vec<Says>, Vec<String>) {
     let cases = seeds.iter().map(|seed| (checks::PINNED.generate)(*seed));
     let asked = cases.map(|case| {
         let script = pin(&ARCHIVE.whole_script(&case.trace), &case.valuation);

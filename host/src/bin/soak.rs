@@ -12,7 +12,7 @@ use host::case::{Case, JudgeCase, PrintCase, RunCase, ScriptCase, SliceCase, Tra
 use host::cases::{judging, printing, running, scripting, slicing, unwinding, Known};
 use host::check::{first_failing, seeds, AnyCheck, Asked};
 use host::hold::{case_count, first_seed, hold_known};
-use host::{checks, program, solver};
+use host::{checks, program, solving};
 
 /// How many cases of each check are generated.
 const CASES: u64 = 100_000;
@@ -42,7 +42,7 @@ fn soak() -> bool {
     let count = case_count(CASES);
     println!("soak: from seed {seed} on, where SEED={seed} begins again");
     soak_checks(Ok(()), &checks::OF_ARCHIVE, seed, count)
-        & soak_checks(solver::find(), &checks::OF_SOLVERS, seed, count.div_ceil(SOLVER_COST))
+        & soak_checks(solving::find(), &checks::OF_SOLVERS, seed, count.div_ceil(SOLVER_COST))
         & soak_checks(program::find(), &checks::OF_PROGRAM, seed, count.div_ceil(PROGRAM_COST))
 }
 
