@@ -8,6 +8,7 @@ pub mod case;
 pub mod cases;
 pub mod check;
 pub mod checks;
+pub mod cli;
 pub mod command;
 pub mod encoding;
 pub mod generate;
