@@ -4,7 +4,7 @@
 
 mod arguments;
 pub mod check;
-mod ending;
+pub mod ending;
 mod expression;
 mod graph;
 mod json;
@@ -59,7 +59,7 @@ fn misuse(message: String) -> Answer {
 }
 
 pub fn main() -> ExitCode {
-    let arguments: Vec<OsString> = env::args_os().skip(1).collect();
+    let arguments: Vec<OsString> = env::args_os().collect();
     let is_for_programs = arguments.iter().any(|argument| argument == "--json");
     let (asked, outcome) = match arguments::read(arguments) {
         Ok(Asked::Help(text)) => return tell(text.as_bytes(), DONE),

@@ -1,5 +1,5 @@
-//! Holds libkadvitul.a and the slice printer to a model written from document 01 and its requests alone, which shares nothing
-//! with them.
+//! Holds libkadvitul.a and the slice printer to a model written from document 01 and its requests alone, which shares
+//! nothing with them. And the command `kadvitul` over them, which does not use the model.
 
 pub mod agreement;
 pub mod answer;

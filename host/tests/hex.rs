@@ -1,4 +1,4 @@
-//! `.hex` files are read in one way: by `tools/hex`, for the commands, and by `host::hex`, for the tests.
+//! `.hex` files are read in one way: by `tools/hex`, for the scripts, and by `host::hex`, for the command and the tests.
 
 use std::fs;
 use std::path::{Path, PathBuf};

@@ -77,6 +77,8 @@ pub enum Asked {
 
 /// What a command is given.
 pub struct Request {
+    /// How this program was called.
+    pub program: String,
     pub command: &'static Command,
     pub rule: String,
     pub solver: Solver,
@@ -86,15 +88,17 @@ pub struct Request {
     inputs: Vec<(usize, u32)>,
 }
 
+/// The arguments, behind how the program was called.
 pub fn read(arguments: Vec<OsString>) -> Result<Asked, Answer> {
     let words = arguments.into_iter().map(text).collect::<Result<Vec<String>, Answer>>()?;
     let words: Vec<&str> = words.iter().map(String::as_str).filter(|word| *word != "--json").collect();
-    match words[..] {
+    let (program, words) = words.split_first().map_or(("kadvitul", &[][..]), |(program, words)| (*program, words));
+    match *words {
         [] => Err(misuse(format!("no command. {}", command_advice()))),
         ["--help" | "-h" | "help"] => Ok(Asked::Help(HELP.into())),
         ["--version"] => Ok(Asked::Help(version())),
         ["help", name] => command(name).map(|command| Asked::Help(command.help.into())),
-        [name, ref rest @ ..] => command(name).and_then(|command| read_rest(command, rest)),
+        [name, ref rest @ ..] => command(name).and_then(|command| read_rest(program, command, rest)),
     }
 }
 
@@ -105,7 +109,9 @@ fn version() -> String {
 }
 
 fn text(argument: OsString) -> Result<String, Answer> {
-    argument.into_string().map_err(|other| misuse(format!("'{}' is no text in UTF-8", other.to_string_lossy())))
+    argument
+        .into_string()
+        .map_err(|other| misuse(format!("'{}' is no text in UTF-8. Rename the file", other.to_string_lossy())))
 }
 
 fn command(name: &str) -> Result<&'static Command, Answer> {
@@ -118,7 +124,7 @@ fn command_advice() -> String {
     format!("Give one of {names}; kadvitul --help says what they do")
 }
 
-fn read_rest(command: &'static Command, words: &[&str]) -> Result<Asked, Answer> {
+fn read_rest(program: &str, command: &'static Command, words: &[&str]) -> Result<Asked, Answer> {
     if words.iter().any(|word| ["--help", "-h"].contains(word)) {
         return Ok(Asked::Help(command.help.into()));
     }
@@ -129,6 +135,7 @@ fn read_rest(command: &'static Command, words: &[&str]) -> Result<Asked, Answer>
         [_, second, ..] => return Err(command.second_rule(second)),
     };
     Ok(Asked::Work(Request {
+        program: program.into(),
         command,
         rule,
         solver: Solver::named(given.value("--solver").unwrap_or("z3")),

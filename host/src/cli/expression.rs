@@ -151,7 +151,9 @@ pub fn fault(expression: &[u8], inputs: usize) -> Option<String> {
             Token::Symbol(symbol) if usize::from(*symbol) >= inputs => {
                 return Some(format!("its expression reads {name}, which is no input: {}", inputs_in_words(inputs)));
             }
-            _ if pops > held => return Some(format!("its token {name} takes {pops} words, where {held} are held")),
+            _ if pops > held => {
+                return Some(format!("its token {name} takes {pops} words, and the stack holds {held}"))
+            }
             _ => held = held + 1 - pops,
         }
         if held > limit {

@@ -34,12 +34,11 @@ pub fn answer(request: &Request) -> Outcome {
 }
 
 fn svg(dot: &str) -> Result<String, Answer> {
-    let advice = "Install it (apt-get install graphviz), or leave --svg out";
-    let fault = |why: String| failed("dot failed", format!("graph: the program dot {why}. {advice}"));
+    let fault = |why: String| failed("dot failed", format!("graph: the program dot {why}, or leave --svg out"));
     match program::feed_to(Command::new("dot").arg("-Tsvg"), dot.as_bytes()) {
         Ok(Printed { text, exit_status: Some(0), .. }) => Ok(String::from_utf8_lossy(&text).into_owned()),
-        Ok(Printed { exit_status, .. }) => Err(fault(format!("fails, with the exit status {exit_status:?}"))),
-        Err(error) => Err(fault(format!("cannot be run: {error}"))),
+        Ok(_) => Err(fault("fails. See why with: kadvitul graph RULE | dot -Tsvg".into())),
+        Err(error) => Err(fault(format!("cannot be run: {error}. Install it (apt-get install graphviz)"))),
     }
 }
 
@@ -118,10 +117,12 @@ impl Picture<'_> {
 
     fn edge(&self, from: usize, to: usize, when: &str) -> String {
         let taken = self.way.map_or(0, |way| way.taken(from, to));
-        let times = if taken > 1 { format!(" {taken}x") } else { String::new() };
-        let label = format!("{when}{times}");
-        let colour = if taken > 0 { format!(" color=\"{EDGE_TAKEN}\" penwidth=3") } else { String::new() };
-        format!("    n{from} -> n{to} [label=\"{}\"{colour}]\n", label.trim())
+        let times = if taken > 1 { format!("{taken}x") } else { String::new() };
+        let label = [when, &times].join(" ");
+        let label = Some(label.trim()).filter(|label| !label.is_empty()).map(|label| format!("label=\"{label}\""));
+        let colour = Some(format!("color=\"{EDGE_TAKEN}\" penwidth=3")).filter(|_| taken > 0);
+        let looks: Vec<String> = label.into_iter().chain(colour).collect();
+        format!("    n{from} -> n{to} [{}]\n", looks.join(" ")).replace(" []", "")
     }
 }
 

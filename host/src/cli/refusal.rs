@@ -82,12 +82,12 @@ fn reason(table: &[u8], bound: u64, reply: u32) -> Option<String> {
 }
 
 fn too_long(table: &[u8], bound: u64) -> String {
-    let limits = format!("with K = {bound} it would have more than 4096 statements or 65535 bytes");
+    let limits = "more than 4096 statements or 65535 bytes";
     match proved::largest_bound(table, bound) {
-        Some(largest) => format!("{limits}: lower K; {largest} is the largest that this rule allows"),
-        None => {
-            format!("{limits}, and so it has with K = 0: the rule is too long for this. It can be run: kadvitul run")
+        Some(largest) => {
+            format!("with K = {bound} it would have {limits}. Lower K: {largest} is the largest that will do")
         }
+        None => format!("it would have {limits} under every K. The rule can be run with given inputs: kadvitul run"),
     }
 }
 
@@ -141,7 +141,7 @@ impl Place<'_> {
             return Some(instruction.to_string());
         }
         let rest = if rest.is_empty() { String::new() } else { format!(", then {}", hex::text(rest)) };
-        Some(instruction.with(&postfix(&tokens)) + &rest)
+        Some(instruction.with(&postfix(&tokens)).trim_end().to_string() + &rest)
     }
 
     fn reason(&self, reply: u32) -> Option<String> {
@@ -154,10 +154,14 @@ impl Place<'_> {
 
     fn broken(&self) -> String {
         let Some(number) = self.number else {
-            return format!("the header says {} instructions, and {} bytes follow them", self.count, self.bytes.len());
+            return format!(
+                "the header's count is {}, and {} bytes follow so many records",
+                self.count,
+                self.bytes.len()
+            );
         };
         match *self.bytes {
-            [] => format!("the header says {} instructions, and {number} are there", self.count),
+            [] => format!("the header's count is {}, and the table ends after {number}", self.count),
             [_] => "its length field has 2 bytes, and one is there".into(),
             [0, 0, ..] => "its length is 0".into(),
             [high, low, ref body @ ..] => self.broken_body(u16::from_be_bytes([high, low]).into(), body),

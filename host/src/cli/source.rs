@@ -70,7 +70,7 @@ fn bytes(name: &str, source: impl Read, is_hex: bool) -> Result<Vec<u8>, Answer>
         return Ok(bytes);
     }
     if bytes.len() as u64 == TEXT_LIMIT {
-        return Err(misuse(format!("{name} has {TEXT_LIMIT} bytes of text or more, which no rule needs")));
+        return Err(misuse(format!("{name} has {TEXT_LIMIT} bytes of text or more, which no rule needs. Give a rule")));
     }
     hex::bytes(&String::from_utf8_lossy(&bytes)).map_err(|NoByte { line, word }| {
         let advice = "Write two hexadecimal digits for each byte, and # before a comment";

@@ -15,6 +15,10 @@ use crate::command::quoted;
 use crate::solver::{self, Failure, Fault};
 use crate::verdict;
 
+/// Of what a program printed, no more is shown.
+const LINES_SHOWN: usize = 10;
+const LETTERS_SHOWN: usize = 2_000;
+
 /// Puts into words what was found.
 pub struct Report<'a> {
     pub request: &'a Request,
@@ -91,12 +95,10 @@ impl Report<'_> {
 
     /// The command that shows it once more.
     fn again(&self, words: &[u32]) -> String {
-        let rule = &self.request.rule;
-        let is_plain = rule.chars().all(|letter| letter.is_ascii_alphanumeric() || "-_./".contains(letter));
-        let rule = if is_plain { rule.clone() } else { quoted(rule) };
         let hex = if self.request.has("--hex") { " --hex" } else { "" };
         let inputs = input_list(words).replace(" = ", "=").replace(',', "");
-        format!("kadvitul run {rule}{hex} -k {} {inputs}", self.bound).trim_end().to_string()
+        let [program, rule] = [&self.request.program, &self.request.rule].map(|word| shell_word(word));
+        format!("{program} run {rule}{hex} -k {} {inputs}", self.bound).trim_end().to_string()
     }
 
     /// A solver's inputs that do not make the rule fail: everything is shown.
@@ -171,15 +173,24 @@ fn keep(bytes: &[u8]) -> io::Result<String> {
     unreachable!("some name is new")
 }
 
+/// As it is, or quoted where a shell would not take it so.
+fn shell_word(text: &str) -> String {
+    let is_plain = text.chars().all(|letter| letter.is_ascii_alphanumeric() || "-_./".contains(letter));
+    if is_plain && !text.is_empty() {
+        return text.to_string();
+    }
+    quoted(text)
+}
+
 /// The start of what a program printed, line by line.
 fn shown(what: &str, text: &str) -> String {
-    const LETTERS: usize = 2000;
     if text.trim().is_empty() {
         return String::new();
     }
-    let start: String = text.chars().take(LETTERS).collect();
-    let lines: String = start.lines().map(|line| format!("    {line}\n")).collect();
-    let more = if text.chars().nth(LETTERS).is_some() { "    ..\n" } else { "" };
+    let start: String = text.chars().take(LETTERS_SHOWN).collect();
+    let lines: String = start.lines().take(LINES_SHOWN).map(|line| format!("    {line}\n")).collect();
+    let is_all = text.lines().nth(LINES_SHOWN).is_none() && text.len() == start.len();
+    let more = if is_all { "" } else { "    ..\n" };
     format!("{what}:\n{lines}{more}")
 }
 
