@@ -1,5 +1,7 @@
 # make help     what can be made
-# make run      the slice of a rule: make run RULE=march K=2 (a rule of rules/, or the path of a table)
+# make run      can a rule fail? make run RULE=march K=2 (a rule of rules/, or the path of a table): the answer, and the slice
+# make cli      target/kadvitul, the command that says so
+# make print    the slice of a rule, by the proved printer alone: make print RULE=march K=2
 # make test     the gate
 # make lib      target/staticlib/libkadvitul.a, for C and Rust
 # make bench    speed against plain Rust, as ratios
@@ -18,12 +20,18 @@ parts = $(shell awk -F: '$$1 == "kadvitul" { print $$1 $$2 }' crates.txt)
 sources = $(shell find $(addprefix crates/,$(parts)) -name '*.rt' -o -name '*.antt')
 
 .DEFAULT_GOAL = help
-.PHONY: help run test bench lib soak fmt mutants clean
+.PHONY: help run cli print test bench lib soak fmt mutants clean
 
 help:
 	@sed -n 's/^# make/make/p' Makefile
 
 run:
+	@tools/run "$(RULE)" "$(K)"
+
+cli:
+	@tools/cli
+
+print:
 	@tools/print "$(RULE)" "$(K)"
 
 test:
