@@ -59,9 +59,10 @@ fn misuse(message: String) -> Answer {
 }
 
 pub fn main() -> ExitCode {
-    let arguments: Vec<OsString> = env::args_os().collect();
+    let program = env::args_os().next().map_or("kadvitul".into(), |name| name.to_string_lossy().into_owned());
+    let arguments: Vec<OsString> = env::args_os().skip(1).collect();
     let is_for_programs = arguments.iter().any(|argument| argument == "--json");
-    let (asked, outcome) = match arguments::read(arguments) {
+    let (asked, outcome) = match arguments::read(&program, arguments) {
         Ok(Asked::Help(text)) => return tell(text.as_bytes(), DONE),
         Ok(Asked::Work(request)) => {
             (Some((request.command.name, request.rule.clone())), (request.command.answer)(&request))
@@ -75,10 +76,15 @@ pub fn main() -> ExitCode {
         return tell(format!("{json}\n").as_bytes(), status);
     }
     if status >= FAILED {
-        eprint!("kadvitul: {text}");
+        complain(&text);
         return status.into();
     }
     tell(text.as_bytes(), status)
+}
+
+/// Writes to standard error, if anything can be written there.
+fn complain(text: &str) {
+    let _ = io::stderr().write_all(format!("kadvitul: {text}").as_bytes());
 }
 
 /// Writes to standard output; a reader that has seen enough is no fault.
@@ -86,7 +92,7 @@ fn tell(text: &[u8], status: u8) -> ExitCode {
     let mut out = io::stdout().lock();
     match out.write_all(text).and_then(|()| out.flush()) {
         Err(error) if error.kind() != ErrorKind::BrokenPipe => {
-            eprintln!("kadvitul: standard output cannot be written: {error}");
+            complain(&format!("standard output cannot be written: {error}\n"));
             FAILED.into()
         }
         _ => status.into(),

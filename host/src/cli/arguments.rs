@@ -88,12 +88,11 @@ pub struct Request {
     inputs: Vec<(usize, u32)>,
 }
 
-/// The arguments, behind how the program was called.
-pub fn read(arguments: Vec<OsString>) -> Result<Asked, Answer> {
+/// What the arguments behind the program's name ask for.
+pub fn read(program: &str, arguments: Vec<OsString>) -> Result<Asked, Answer> {
     let words = arguments.into_iter().map(text).collect::<Result<Vec<String>, Answer>>()?;
     let words: Vec<&str> = words.iter().map(String::as_str).filter(|word| *word != "--json").collect();
-    let (program, words) = words.split_first().map_or(("kadvitul", &[][..]), |(program, words)| (*program, words));
-    match *words {
+    match words[..] {
         [] => Err(misuse(format!("no command. {}", command_advice()))),
         ["--help" | "-h" | "help"] => Ok(Asked::Help(HELP.into())),
         ["--version"] => Ok(Asked::Help(version())),

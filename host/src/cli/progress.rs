@@ -4,6 +4,8 @@ use std::sync::mpsc::{self, Receiver, RecvTimeoutError};
 use std::thread;
 use std::time::{Duration, Instant};
 
+use super::complain;
+
 /// Work that takes longer than this is told, and then as often as the next says.
 const PATIENCE: Duration = Duration::from_secs(2);
 const INTERVAL: Duration = Duration::from_secs(10);
@@ -23,7 +25,7 @@ fn tell(what: &str, is_done: Receiver<()>) {
     let start = Instant::now();
     let mut wait = PATIENCE;
     while is_done.recv_timeout(wait) == Err(RecvTimeoutError::Timeout) {
-        eprintln!("kadvitul: {what}; {} s so far", start.elapsed().as_secs());
+        complain(&format!("{what}; {} s so far\n", start.elapsed().as_secs()));
         wait = INTERVAL;
     }
 }
