@@ -1,4 +1,4 @@
-/* Kadvitul: a proved checker for merge rules. Version 2.1.0.
+/* Kadvitul: a proved checker for merge rules. Version 3.0.0.
  *
  * A rule is a table of bytes, and a trace is a file of bytes too; docs/FORMAT.md says what they hold. Every call but
  * kadvitul_version takes any bytes at all and gives one number of the documented answer; the calls that belong together give the numbers of
@@ -20,8 +20,8 @@ extern "C" {
 #endif
 
 /* The version: 10000 times the first number, 100 times the second, and the third. kadvitul_version gives that of the archive. */
-#define KADVITUL_VERSION 20100
-#define KADVITUL_VERSION_TEXT "2.1.0"
+#define KADVITUL_VERSION 30000
+#define KADVITUL_VERSION_TEXT "3.0.0"
 
 /* The room that always does, in bytes: for a trace or a slice, and for a script. */
 #define KADVITUL_ROOM 65535

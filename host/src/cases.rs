@@ -27,7 +27,7 @@ fn marked_operators() -> [(&'static str, Vec<u8>); 8] {
         ("m6: 0 sub 1", equality(0, 0x21, 1, 4294967295)),
         ("m7: 65536 mul 65536", equality(65536, 0x22, 65536, 0)),
         ("m8: 7 udiv 0", equality(7, 0x23, 0, 4294967295)),
-        ("m8: 7 urem 0", equality(7, 0x24, 0, 0)),
+        ("m8: 7 urem 0", equality(7, 0x24, 0, 7)),
         ("m9: 1 shl 31", equality(1, 0x28, 31, 2147483648)),
         ("m9: 1 shl 32", equality(1, 0x28, 32, 0)),
         ("m10: 2147483648 slt 0", equality(2147483648, 0x2C, 0, 1)),

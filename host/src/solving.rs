@@ -86,13 +86,14 @@ pub fn pin(script: &[u8], valuation: &[u8]) -> Vec<u8> {
     [script.strip_suffix(LAST_LINE).unwrap_or(script), pins.as_bytes(), LAST_LINE].concat()
 }
 
-/// A script with SMT-LIB's own remainder, which is the dividend where the divisor is zero.
-pub fn with_plain_remainders(script: &str) -> String {
-    let mut parts = script.split("#x00000000 (bvurem ");
+/// A script in which a remainder by zero is 0, as it was before request 2026-05.
+pub fn with_zero_remainders(script: &str) -> String {
+    let mut parts = script.split("(bvurem ");
     let first = parts.next().unwrap_or_default().to_owned();
     parts.fold(first, |text, part| {
-        let dividend = part.split(' ').next().unwrap_or_default();
-        text + dividend + " (bvurem " + part
+        let (operands, rest) = part.split_once(')').unwrap_or((part, ""));
+        let divisor = operands.split(' ').next_back().unwrap_or_default();
+        text + "(ite (= " + divisor + " #x00000000) #x00000000 (bvurem " + operands + "))" + rest
     })
 }
 

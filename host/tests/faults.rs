@@ -10,7 +10,7 @@ use host::check::{first_failing, seeds, AnyCheck};
 use host::checks;
 use host::parts::{as_old_trace, without_self_jumps, Parts};
 use host::program::Printed;
-use host::solving::with_plain_remainders;
+use host::solving::with_zero_remainders;
 use host::verdict::{CUT, ENDED, STOPPED, UNSAFE};
 
 const ASSUME: u8 = 2;
@@ -491,16 +491,16 @@ fn a_script_without_its_bounds_is_noticed() {
 }
 
 #[test]
-fn a_script_with_smt_libs_own_remainder_is_noticed() {
+fn a_script_in_which_a_remainder_by_zero_is_zero_is_noticed() {
     struct Liar;
     impl Calls for Liar {
         fn script_length(&self, trace: &[u8], out: &mut [u8]) -> u32 {
             let length = ARCHIVE.script_length(trace, out);
-            rewrite(out, length, with_plain_remainders)
+            rewrite(out, length, with_zero_remainders)
         }
     }
-    is_noticed_by(&checks::SCRIPT, "a plain urem", &Liar);
-    is_noticed_by(&checks::PINNED, "a plain urem", &Liar);
+    is_noticed_by(&checks::SCRIPT, "a remainder by zero that is 0", &Liar);
+    is_noticed_by(&checks::PINNED, "a remainder by zero that is 0", &Liar);
 }
 
 #[test]
@@ -602,11 +602,14 @@ fn as_130(trace: &[u8]) -> Vec<u8> {
     trace
 }
 
-/// Puts another script into the place of one of so many letters, and gives its length, where it is not longer.
+/// Puts another script into the place of one of so many letters, where there is room for it, and gives its length.
 fn rewrite(out: &mut [u8], length: u32, edit: impl Fn(&str) -> String) -> u32 {
     let script = str::from_utf8(&out[..length as usize]).expect("a text");
     let edited = edit(script);
-    out[..edited.len()].copy_from_slice(edited.as_bytes());
+    let Some(room) = out.get_mut(..edited.len()) else {
+        return length;
+    };
+    room.copy_from_slice(edited.as_bytes());
     edited.len() as u32
 }
 

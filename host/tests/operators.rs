@@ -85,34 +85,21 @@ impl Term {
 static STANDARD: LazyLock<Result<Vec<(Term, u32)>, String>> = LazyLock::new(ask_z3);
 
 #[test]
-fn every_operator_gives_the_standards_word_in_the_model_but_urem_by_zero() {
+fn every_operator_gives_the_standards_word_in_the_model() {
     hold_terms(JudgeCase::model);
 }
 
 #[test]
-fn every_operator_gives_the_standards_word_in_the_archive_but_urem_by_zero() {
+fn every_operator_gives_the_standards_word_in_the_archive() {
     hold_terms(JudgeCase::archive);
 }
 
-#[test]
-fn a_remainder_by_zero_is_the_dividend_in_the_standard() {
-    for (term, word) in standard().iter().filter(|(term, _)| is_urem_by_zero(term)) {
-        assert_eq!(*word, term.words[0]);
-    }
-}
-
 fn hold_terms(judge: fn(&JudgeCase) -> JudgeAnswer) {
-    for (term, standard) in standard() {
-        // Document 01's departure: "a remainder by zero gives 0, as our store computes it".
-        let word = if is_urem_by_zero(term) { 0 } else { *standard };
+    for &(ref term, word) in standard() {
         let case = equality_and_contrary(term, word);
         let wrong = format!("{} of {:?} is not {word}", term.operator.name, term.words);
         assert_eq!(judge(&case), unsafe_at(2), "{wrong}; repeat it with\n{}\n{case}", term.command());
     }
-}
-
-fn is_urem_by_zero(term: &Term) -> bool {
-    term.operator.name == "urem" && term.words[1] == 0
 }
 
 /// Asserts that the term is the word at place 1, and that it is not at place 2: only the second may fail.

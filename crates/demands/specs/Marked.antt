@@ -5,7 +5,7 @@ use mathlib.Core.Path.{_≡_, refl}
 use mathlib.Core.List.{List, [], _∷_, map}
 use lib.Count.{ones}
 use Rattle.expr.specs.Lists.{All}
-use Rattle.expr.specs.Word.{Binary, Sub, Mul, Udiv, Urem, Shl, Ult, Slt, remainderByZero, signed, unary, binary}
+use Rattle.expr.specs.Word.{Binary, Sub, Mul, Udiv, Urem, Shl, Ult, Slt, signed, unary, binary}
 use Rattle.expr.specs.Token.{Const, Bin, operator, readToken}
 use Rattle.expr.specs.Expr.{fits, parseFrom}
 use Rattle.expr.specs.Eval.{envOf, value}
@@ -109,9 +109,9 @@ marked =
     ∷ m 6 (Compute 0 Sub 1) (Word 4294967295)
     -- 65536 mul 65536 = 0
     ∷ m 7 (Compute 65536 Mul 65536) (Word 0)
-    -- 7 udiv 0 = 4294967295; 7 urem 0 = 0
+    -- 7 udiv 0 = 4294967295; 7 urem 0 = 7
     ∷ m 8 (Compute 7 Udiv 0) (Word 4294967295)
-    ∷ m 8 (Compute 7 Urem 0) (Word 0)
+    ∷ m 8 (Compute 7 Urem 0) (Word 7)
     -- 1 shl 31 = 2147483648; 1 shl 32 = 0
     ∷ m 9 (Compute 1 Shl 31) (Word 2147483648)
     ∷ m 9 (Compute 1 Shl 32) (Word 0)
@@ -145,7 +145,7 @@ all-hold (m number question told ∷ cs) h = (cc, all-hold cs cc)
 
 pub marked-hold : All Holds marked
 unfolding runAnswer readTable isTable readFile headerReply headSize headerInputs headerCount inputsLimit inputRoom records recordOf frame
-    instr parseFrom readToken operator fits run value unary binary remainderByZero signed judgeAnswer readTrace isTrace traceVersion
+    instr parseFrom readToken operator fits run value unary binary signed judgeAnswer readTrace isTrace traceVersion
     oldVersion tellsBound stmt
     judge traceAnswer unwind places encode header sliceAnswer slice ones
 marked-hold = all-hold marked refl

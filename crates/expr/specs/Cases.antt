@@ -6,7 +6,7 @@ use mathlib.Core.List.{List, [], _∷_, map}
 use lib.ListN.{length, replicate}
 use Rattle.expr.specs.declared.File.the-variants.{Table, Trace}
 use Rattle.expr.specs.Word.{Not, Neg, Zero, Add, Sub, Mul, Udiv, Urem, And, Or, Xor, Shl, Lshr, Equal, Ult, Ule, Slt}
-use Rattle.expr.specs.Word.{remainderByZero, signed, unary, binary, choice}
+use Rattle.expr.specs.Word.{signed, unary, binary, choice}
 use Rattle.expr.specs.Token.{Const, Symbol, Un, Bin, Ite, operator, readToken}
 use Rattle.expr.specs.Expr.{below, fits, Parsed, Whole, Breaks, parseFrom, parse}
 use Rattle.expr.specs.Eval.{envOf, value}
@@ -19,8 +19,8 @@ pub m7 : binary 32 Mul 65536 65536 ≡ 0
 unfolding binary
 m7 = refl
 
-pub m8 : (binary 32 Udiv 7 0 ≡ 4294967295) × (binary 32 Urem 7 0 ≡ 0)
-unfolding binary remainderByZero
+pub m8 : (binary 32 Udiv 7 0 ≡ 4294967295) × (binary 32 Urem 7 0 ≡ 7)
+unfolding binary
 m8 = (refl, refl)
 
 pub m9 : (binary 32 Shl 1 31 ≡ 2147483648) × (binary 32 Shl 1 32 ≡ 0)

@@ -15,7 +15,7 @@ use lib.Pow.{pow-add, pow-mono, shl-shr, shr-shr, field, mod-mod-pow}
 use lib.Bits.{bitAnd, shifted-even}
 use borrow.Author.Tests.{ltb-true, ltb-false, lt-ltb, le-ltb, leb-true, leb-false, le-leb, lt-leb, eqb-true, eqb-false, eq-eqb, ne-eqb}
 use Rattle.expr.specs.Word.{Neg, Zero, Add, Sub, Mul, Udiv, Urem, And, Shl, Lshr, Equal, Ult, Ule, Slt}
-use Rattle.expr.specs.Word.{test, remainderByZero, unary, binary, choice, bit}
+use Rattle.expr.specs.Word.{test, unary, binary, choice, bit}
 use Rattle.expr.specs.WordLaws.{raised, same-ltb, halved, slt-raised}
 
 -- ---- add: counts on from a, b times; after 2 ^ w - 1 comes 0
@@ -67,24 +67,24 @@ module _ (w a : ℕ) where
   unfolding binary
   mul-once-more b = rw (add-one, mul-suc) (sym (mod-add-mod (a * b) (2 ^ w) a))
 
--- ---- udiv and urem: quotient and remainder rebuild the dividend, and the remainder is below the divisor
+-- ---- udiv and urem: quotient and remainder rebuild the dividend, by zero too, and the remainder is below any other divisor
 
-module _ (w a b : ℕ) (h : b ≢ 0) where
-  pub udiv-urem-rebuild : binary w Udiv a b * b + binary w Urem a b ≡ a
-  unfolding binary
-  udiv-urem-rebuild = rw (ne-eqb b 0 h) (div-add-mod' a b)
+pub udiv-urem-rebuild : (w a b : ℕ) → binary w Udiv a b * b + binary w Urem a b ≡ a
+unfolding binary
+udiv-urem-rebuild w a zero = rw mul-zero (zero-add a)
+udiv-urem-rebuild w a (suc b) = rw (ne-eqb (suc b) 0 (λ e. omega arith)) (div-add-mod' a (suc b))
 
-  pub urem-below-divisor : binary w Urem a b < b
-  unfolding binary
-  urem-below-divisor = rw (ne-eqb b 0 h) (mod-lt a (omega arith))
+pub urem-below-divisor : (w a b : ℕ) → b ≢ 0 → binary w Urem a b < b
+unfolding binary
+urem-below-divisor w a b h = rw (ne-eqb b 0 h) (mod-lt a (omega arith))
 
 pub udiv-by-zero-all-ones : (w a : ℕ) → binary w Udiv a 0 ≡ 2 ^ w - 1
 unfolding binary
 udiv-by-zero-all-ones w a = refl
 
-pub urem-by-zero-zero : (w a : ℕ) → binary w Urem a 0 ≡ 0
-unfolding binary remainderByZero
-urem-by-zero-zero w a = refl
+pub urem-by-zero-dividend : (w a : ℕ) → binary w Urem a 0 ≡ a
+unfolding binary
+urem-by-zero-dividend w a = refl
 
 -- ---- words by their bits
 

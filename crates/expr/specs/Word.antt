@@ -1,5 +1,5 @@
 -- Document 01, "Arithmetic": the operators on words of w bits. A word is a number below 2 ^ w; the code's words have 32 bits.
--- They are those of SMT-LIB's FixedSizeBitVectors, but for `remainderByZero`.
+-- They are those of SMT-LIB's FixedSizeBitVectors.
 use Prim.Native.Nat.{ℕ, _+_, _-_, _*_, _/_, _%_, _^_, _<_}
 use mathlib.Core.Bool.{Bool, true, false, cond, not}
 use lib.Dec.{eqb, ltb, leb}
@@ -26,10 +26,6 @@ abbrev pub test : Bool → ℕ
 test true = 1
 test false = 0
 
--- the departure: a remainder of a by zero gives 0, as our store computes it (the standard gives a)
-unfoldable pub remainderByZero : (a : ℕ) → ℕ
-remainderByZero a = 0
-
 -- a word read as -2 ^ (w - 1) to 2 ^ (w - 1) - 1: from 2 ^ (w - 1) on it stands for a - 2 ^ w
 unfoldable pub signed : (w a : ℕ) → ℤ
 signed w a = cond (ltb a (2 ^ (w - 1))) (pos a) (subℕ a (2 ^ w))
@@ -45,7 +41,7 @@ binary w Add a b = (a + b) % 2 ^ w
 binary w Sub a b = (a + (2 ^ w - b)) % 2 ^ w
 binary w Mul a b = a * b % 2 ^ w
 binary w Udiv a b = cond (eqb b 0) (2 ^ w - 1) (a / b)
-binary w Urem a b = cond (eqb b 0) (remainderByZero a) (a % b)
+binary w Urem a b = cond (eqb b 0) a (a % b)
 binary w And a b = bitAnd a b
 binary w Or a b = bitOr a b
 binary w Xor a b = bitXor a b

@@ -15,7 +15,7 @@ use lib.IntN.{pos, negsuc, subℕ}
 use lib.Signed.{ltZ}
 use borrow.Author.Tests.{ltb-true, ltb-false, lt-ltb, le-ltb, ne-eqb}
 use Rattle.expr.specs.Word.{Unary, Not, Neg, Zero, Binary, Add, Sub, Mul, Udiv, Urem, And, Or, Xor, Shl, Lshr, Equal, Ult, Ule, Slt}
-use Rattle.expr.specs.Word.{truthy, test, remainderByZero, signed, unary, binary, choice, bit}
+use Rattle.expr.specs.Word.{truthy, test, signed, unary, binary, choice, bit}
 
 -- ---- words in, words out
 
@@ -41,9 +41,8 @@ module _ (w : ℕ) (p : 0 < w) where
   unary-lt Neg a = mod-lt _ (pow-pos w)
   unary-lt Zero a = test-lt (eqb a 0)
 
-  rem-lt : (a b : ℕ) → a < 2 ^ w → b < 2 ^ w → cond (eqb b 0) (remainderByZero a) (a % b) < 2 ^ w
-  unfolding remainderByZero
-  rem-lt a zero h k = pow-pos w
+  rem-lt : (a b : ℕ) → a < 2 ^ w → b < 2 ^ w → cond (eqb b 0) a (a % b) < 2 ^ w
+  rem-lt a zero h k = h
   rem-lt a (suc b) h k = rw (ne-eqb (suc b) 0 (λ e. omega arith)) (omega (arith, mod-lt a {m = suc b} (omega arith)))
 
   pub binary-lt : (o : Binary) (a b : ℕ) → a < 2 ^ w → b < 2 ^ w → binary w o a b < 2 ^ w

@@ -49,7 +49,7 @@ pub fn udiv(a: u32, b: u32) -> u32
 pub fn urem(a: u32, b: u32) -> u32
     ensures { λ r. ⌜ r ≡ binary 32 Urem a b ⌝ }
 {
-    if b == 0 { 0 } else { a % b }
+    if b == 0 { a } else { a % b }
 }
 
 pub fn and(a: u32, b: u32) -> u32

@@ -42,12 +42,6 @@ unfolding constant
 test-behind [] = refl
 test-behind (x ∷ xs) = ap {B = List ℕ} (λ r. x ∷ r) (test-behind xs)
 
-divisor-behind : (xs : List ℕ) → xs ++ ascii " " ++ constant 0 ++ ascii ")" ++ ascii " " ++ constant 0 ++ ascii " "
-    ≡ xs ++ ascii " #x00000000) #x00000000 "
-unfolding constant
-divisor-behind [] = refl
-divisor-behind (x ∷ xs) = ap {B = List ℕ} (λ r. x ∷ r) (divisor-behind xs)
-
 choice-behind : (xs : List ℕ) → xs ++ ascii " " ++ constant 0 ++ ascii ")" ++ ascii " " ≡ xs ++ ascii " #x00000000) "
 unfolding constant
 choice-behind [] = refl
@@ -79,40 +73,33 @@ module _ (k : ℕ) where
       ap (λ r. r ++ slotName (k + 1) ++ ascii " " ++ slotName (k + 2) ++ ascii ")")
       (sym (choice-behind (ascii "(ite (distinct " ++ slotName k)))
 
-  pub urem-text : ascii "(ite (= " ++ slotName (k + 1) ++ ascii " #x00000000) #x00000000 " ++ binaryText k 0x24 ++ ascii ")"
-      ≡ wordText k (some (Bin Urem))
-  unfolding binaryText frontOf operator
-  urem-text =
-      ap (λ r. r ++ (ascii "(bvurem " ++ slotName k ++ ascii " " ++ slotName (k + 1) ++ ascii ")") ++ ascii ")")
-      (sym (divisor-behind (ascii "(ite (= " ++ slotName (k + 1))))
-
--- a binary operator but the remainder
-plain : (k : ℕ) (o : Binary) → (binaryCode o ≡ 0x24 → ⊥)
+-- a binary operator
+plain : (k : ℕ) (o : Binary)
     → ascii (binaryFront o) ++ slotName k ++ ascii " " ++ slotName (k + 1) ++ backOf (binaryCode o) ≡ wordText k (some (Bin o))
-plain k Add n = refl
-plain k Sub n = refl
-plain k Mul n = refl
-plain k Udiv n = refl
-plain k Urem n = absurd (n refl)
-plain k And n = refl
-plain k Or n = refl
-plain k Xor n = refl
-plain k Shl n = refl
-plain k Lshr n = refl
-plain k Equal n = sym (test-behind (ascii "(ite (= " ++ slotName k ++ ascii " " ++ slotName (k + 1)))
-plain k Ult n = sym (test-behind (ascii "(ite (bvult " ++ slotName k ++ ascii " " ++ slotName (k + 1)))
-plain k Ule n = sym (test-behind (ascii "(ite (bvule " ++ slotName k ++ ascii " " ++ slotName (k + 1)))
-plain k Slt n = sym (test-behind (ascii "(ite (bvslt " ++ slotName k ++ ascii " " ++ slotName (k + 1)))
+plain k Add = refl
+plain k Sub = refl
+plain k Mul = refl
+plain k Udiv = refl
+plain k Urem = refl
+plain k And = refl
+plain k Or = refl
+plain k Xor = refl
+plain k Shl = refl
+plain k Lshr = refl
+plain k Equal = sym (test-behind (ascii "(ite (= " ++ slotName k ++ ascii " " ++ slotName (k + 1)))
+plain k Ult = sym (test-behind (ascii "(ite (bvult " ++ slotName k ++ ascii " " ++ slotName (k + 1)))
+plain k Ule = sym (test-behind (ascii "(ite (bvule " ++ slotName k ++ ascii " " ++ slotName (k + 1)))
+plain k Slt = sym (test-behind (ascii "(ite (bvslt " ++ slotName k ++ ascii " " ++ slotName (k + 1)))
 
-pub binary-text : (k b : ℕ) → b < 256 → 0 < popsOf b → 0x20 ≤ b → b < 0x30 → (b ≡ 0x24 → ⊥) → binaryText k b ≡ wordText k (operator b)
+pub binary-text : (k b : ℕ) → b < 256 → 0 < popsOf b → 0x20 ≤ b → b < 0x30 → binaryText k b ≡ wordText k (operator b)
 unfolding binaryText frontOf
-binary-text k b h s l m n =
+binary-text k b h s l m =
     let u = is-binary b (binary-code b h s l m .1) in
     let o = u .0 in
     let c : b ≡ binaryCode o = operator-is b (Bin o) (u .1) .0 in
     ap (λ t. frontIn t ++ slotName k ++ ascii " " ++ slotName (k + 1) ++ backOf b) (u .1)
     ∙ ap (λ x. ascii (binaryFront o) ++ slotName k ++ ascii " " ++ slotName (k + 1) ++ backOf x) c
-    ∙ plain k o (λ z. n (c ∙ z))
+    ∙ plain k o
     ∙ sym (ap (wordText k) (u .1))
 
 -- behind the variables
@@ -130,15 +117,7 @@ module _ (k b : ℕ) where
       ap (λ t. frontOf b ++ slotName k ++ ascii " " ++ slotName (k + 1) ++ cond t (ascii ") #x00000001 #x00000000)") (ascii ")"))
       (sym (lt-leb 0x2A b h))
 
-pub urem-pops : 0 < popsOf 0x24
-unfolding popsOf operator
-urem-pops = omega arith
-
 module _ (k b : ℕ) where
   pub ite-word : b < 256 → 0 < popsOf b → 0x30 ≤ b → wordText k (some Ite) ≡ wordText k (operator b)
   unfolding operator
   ite-word h s l = sym (ap (λ x. wordText k (operator x)) (ite-code b h s l .0))
-
-  pub urem-word : b ≡ 0x24 → wordText k (some (Bin Urem)) ≡ wordText k (operator b)
-  unfolding operator
-  urem-word e = sym (ap (λ x. wordText k (operator x)) e)

@@ -41,11 +41,11 @@ unfolding readTrace isTrace traceVersion oldVersion tellsBound readFile headSize
     headerReply records recordOf frame stmt parseFrom readToken operator fits exprTerm violation scriptOf decimal constant scriptText
 small = refl
 
--- a trace with no Assert: its Assume is not written; and a remainder, 0 where the divisor is
+-- a trace with no Assert: its Assume is not written; and a remainder
 no-assert : scriptText 2 (Assign 0 2 (Symbol 1 ∷ Const 7 ∷ Bin Urem ∷ []) ∷ Test Assume 1 (Symbol 2 ∷ []) ∷ []) ≡
     ascii "(set-logic QF_BV)\n(declare-const s0 (_ BitVec 32))\n(declare-const s1 (_ BitVec 32))\n"
     ++ ascii "(declare-const s2 (_ BitVec 32))\n"
-    ++ ascii "(assert (= s2 (let ((x0 s1)) (let ((x1 #x00000007)) (let ((x0 (ite (= x1 #x00000000) #x00000000 (bvurem x0 x1)))) "
+    ++ ascii "(assert (= s2 (let ((x0 s1)) (let ((x1 #x00000007)) (let ((x0 (bvurem x0 x1))) "
     ++ ascii "x0)))))\n(assert\nfalse)\n(check-sat)\n"
 unfolding exprTerm violation scriptOf decimal constant scriptText
 no-assert = refl
@@ -82,8 +82,8 @@ operators : termText (exprTerm (Symbol 0 ∷ Un Not ∷ Symbol 0 ∷ Un Neg ∷ 
     ∷ Symbol 0 ∷ Bin Ule ∷ Symbol 0 ∷ Bin Slt ∷ Symbol 0 ∷ Const 1 ∷ Ite ∷ [])) ≡
     ascii "(let ((x0 s0)) (let ((x0 (bvnot x0))) (let ((x1 s0)) (let ((x1 (bvneg x1))) (let ((x0 (bvadd x0 x1))) (let ((x1 s0)) "
     ++ ascii "(let ((x1 (ite (= x1 #x00000000) #x00000001 #x00000000))) (let ((x0 (bvsub x0 x1))) (let ((x1 s0)) (let ((x0 (bvmul "
-    ++ ascii "x0 x1))) (let ((x1 s0)) (let ((x0 (bvudiv x0 x1))) (let ((x1 s0)) (let ((x0 (ite (= x1 #x00000000) #x00000000 (bvurem "
-    ++ ascii "x0 x1)))) (let ((x1 s0)) (let ((x0 (bvand x0 x1))) (let ((x1 s0)) (let ((x0 (bvor x0 x1))) (let ((x1 s0)) (let ((x0 "
+    ++ ascii "x0 x1))) (let ((x1 s0)) (let ((x0 (bvudiv x0 x1))) (let ((x1 s0)) (let ((x0 (bvurem "
+    ++ ascii "x0 x1))) (let ((x1 s0)) (let ((x0 (bvand x0 x1))) (let ((x1 s0)) (let ((x0 (bvor x0 x1))) (let ((x1 s0)) (let ((x0 "
     ++ ascii "(bvxor x0 x1))) (let ((x1 s0)) (let ((x0 (bvshl x0 x1))) (let ((x1 s0)) (let ((x0 (bvlshr x0 x1))) (let ((x1 s0)) "
     ++ ascii "(let ((x0 (ite (= x0 x1) #x00000001 #x00000000))) (let ((x1 s0)) (let ((x0 (ite (bvult x0 x1) #x00000001 "
     ++ ascii "#x00000000))) (let ((x1 s0)) (let ((x0 (ite (bvule x0 x1) #x00000001 #x00000000))) (let ((x1 s0)) (let ((x0 (ite "
@@ -97,7 +97,7 @@ constants : (constant 0 ≡ ascii "#x00000000") × (constant 4294967295 ≡ asci
 unfolding constant
 constants = (refl, refl, refl)
 
--- SMT-LIB's operators where ours depart, or might: a remainder by 0 is the dividend, a quotient by 0 has all bits set
+-- SMT-LIB's operators where others might differ: a remainder by 0 is the dividend, a quotient by 0 has all bits set
 standard : (bvBinary 32 bvurem 7 0 ≡ 7) × (bvBinary 32 bvurem 7 4 ≡ 3) × (bvBinary 32 bvudiv 7 0 ≡ 4294967295)
     × (bvBinary 32 bvudiv 7 2 ≡ 3) × (bvBinary 32 bvsub 0 1 ≡ 4294967295) × (bvUnary 32 bvneg 0 ≡ 0)
 unfolding bvUnary bvBinary

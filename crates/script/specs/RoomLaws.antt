@@ -1,9 +1,8 @@
 -- How long a script can be: 61 letters for each byte of its trace and 1,845 besides, so four million hold every script.
 --
--- Why. The slots are x0 to x16, so the longest token for its bytes is `zero` at x10 or above: 61 letters for its one byte. Only a remainder
--- has more, 67; but it leaves a word less than it took, and the bytes that pushed that word have letters to spare. So each word that is
--- held may owe six letters (`token-short`). A statement's bytes pay for its lines; the 1,845 are the declarations of 64 inputs and the
--- lines around, less what the header's six bytes pay.
+-- Why. The slots are x0 to x16, so the longest token for its bytes is `zero` at x10 or above: 61 letters for its one byte (`token-short`).
+-- A statement's bytes pay for its lines; the 1,845 are the declarations of 64 inputs and the lines around, less what the header's six bytes
+-- pay.
 use Prim.Native.Nat.{ℕ, zero, suc, _+_, _-_, _*_, _≤_, _<_}
 use Prim.Native.String.{String}
 use native.Mathlib.Omega.{arith}
@@ -106,15 +105,12 @@ module _ (k : ℕ) (h : k ≤ 16) where
   pair-short : (length x ≤ 3) × (length y ≤ 3)
   pair-short = (slot-short k (omega arith), slot-short (k + 1) (omega arith))
 
-  binary-short : (o : Binary) → length (termText (binaryTerm o (slot k) (slot (k + 1)))) ≤ 52
+  binary-short : (o : Binary) → length (termText (binaryTerm o (slot k) (slot (k + 1)))) ≤ 46
   binary-short Add = omega (arith, two-length "bvadd" x y, pair-short)
   binary-short Sub = omega (arith, two-length "bvsub" x y, pair-short)
   binary-short Mul = omega (arith, two-length "bvmul" x y, pair-short)
   binary-short Udiv = omega (arith, two-length "bvudiv" x y, pair-short)
-  binary-short Urem =
-      let c = applyTwo "=" y (constant 0) in
-      let d = applyTwo "bvurem" x y in
-      omega (arith, ite-length c (constant 0) d, two-length "=" y (constant 0), two-length "bvurem" x y, constant-length 0, pair-short)
+  binary-short Urem = omega (arith, two-length "bvurem" x y, pair-short)
   binary-short And = omega (arith, two-length "bvand" x y, pair-short)
   binary-short Or = omega (arith, two-length "bvor" x y, pair-short)
   binary-short Xor = omega (arith, two-length "bvxor" x y, pair-short)
@@ -125,8 +121,7 @@ module _ (k : ℕ) (h : k ≤ 16) where
   binary-short Ule = omega (arith, test-length bvule x y, pair-short)
   binary-short Slt = omega (arith, test-length bvslt x y, pair-short)
 
-  -- with six letters for the word that it pushes, and six of each that it pops
-  token-short : (t : Token) → length (slotName k) + length (termText (tokenTerm k t)) + 18 ≤ 61 * length (tokenBytes Trace t) + 6 * pops t
+  token-short : (t : Token) → length (slotName k) + length (termText (tokenTerm k t)) + 12 ≤ 61 * length (tokenBytes Trace t)
   token-short (Const n) = omega (arith, constant-length n, bytesOf-length 4 n, pair-short)
   token-short (Symbol s) = omega (arith, ten-digits s, bytesOf-length 2 s, pair-short)
   token-short (Un o) = omega (arith, unary-short o, pair-short)
@@ -144,7 +139,7 @@ module _ (k : ℕ) (h : k ≤ 16) where
       )
 
 term-short : (may : ℕ → Bool) (d : ℕ) (e : List Token) → Ok may 17 d 1 e
-    → length (termText (termFrom d e)) ≤ 61 * length (exprBytes Trace e) + 6 * d
+    → length (termText (termFrom d e)) ≤ 61 * length (exprBytes Trace e) + 3
 term-short may d [] o = omega (arith, slot-short 0 (omega arith))
 term-short may d (t ∷ e) o =
     let f = fits-is may 17 d t (o .0) in
@@ -155,10 +150,9 @@ term-short may d (t ∷ e) o =
       token-short k (omega (arith, f .room)) t,
       term-short may (after d t) e (o .1),
       length-append (tokenBytes Trace t) (exprBytes Trace e),
-      f .enough,
     )
 
-expr-short : (may : ℕ → Bool) (e : List Token) → ExprOk may e → length (termText (exprTerm e)) ≤ 61 * length (exprBytes Trace e)
+expr-short : (may : ℕ → Bool) (e : List Token) → ExprOk may e → length (termText (exprTerm e)) ≤ 61 * length (exprBytes Trace e) + 3
 unfolding exprTerm
 expr-short may e o = omega (arith, term-short may 0 e (o .0))
 

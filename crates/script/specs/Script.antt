@@ -24,13 +24,12 @@ unaryTerm Not a = one bvnot a
 unaryTerm Neg a = one bvneg a
 unaryTerm Zero a = testTerm equals a (hex 0)
 
--- the departure: a remainder by zero is 0 (until request 2026-05)
 abbrev pub binaryTerm : Binary → (a b : Term) → Term
 binaryTerm Add a b = two bvadd a b
 binaryTerm Sub a b = two bvsub a b
 binaryTerm Mul a b = two bvmul a b
 binaryTerm Udiv a b = two bvudiv a b
-binaryTerm Urem a b = choose equals b (hex 0) (hex 0) (two bvurem a b)
+binaryTerm Urem a b = two bvurem a b
 binaryTerm And a b = two bvand a b
 binaryTerm Or a b = two bvor a b
 binaryTerm Xor a b = two bvxor a b

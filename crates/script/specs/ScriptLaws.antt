@@ -38,7 +38,7 @@ use Rattle.trace.specs.PastLaws.{env-words, assign-words, past-words, past-keep
 use Rattle.trace.specs.PastLaws.{AgreeIn, value-in, past-equation}
 use Rattle.script.specs.Smt.{Relation, bvule, bvslt, bvUnary, bvBinary, related, Term, slot, wordIn, wordOf}
 use Rattle.script.specs.Smt.{Formula, both, holds, solves, satisfies}
-use Rattle.script.specs.SmtLaws.{sub-is, shl-is, lshr-is, ule-is, urem-is, slt-is}
+use Rattle.script.specs.SmtLaws.{sub-is, shl-is, lshr-is, ule-is, slt-is}
 use Rattle.script.specs.Script.{unaryTerm, binaryTerm, tokenTerm, termFrom, exprTerm, numbersFrom, equationsOf, tested, violation}
 use Rattle.script.specs.Script.{scriptOf, inputsOf}
 
@@ -62,7 +62,7 @@ module _ (σ ξ : Env) where
   binary-means Sub a b h k = sub-is 32 (wordIn σ ξ a) (wordIn σ ξ b)
   binary-means Mul a b h k = refl
   binary-means Udiv a b h k = refl
-  binary-means Urem a b h k = urem-is 32 (wordIn σ ξ a) (wordIn σ ξ b)
+  binary-means Urem a b h k = refl
   binary-means And a b h k = refl
   binary-means Or a b h k = refl
   binary-means Xor a b h k = refl

@@ -64,7 +64,7 @@ frontOf b = frontIn (operator b)
 abbrev pub backOf : (code : ℕ) → List ℕ
 backOf b = cond (leb 0x2A b) (ascii ") #x00000001 #x00000000)") (ascii ")")
 
--- the term of a binary operator; a remainder's without its test of the divisor
+-- the term of a binary operator
 unfoldable pub binaryText : (k code : ℕ) → List ℕ
 binaryText k b = frontOf b ++ slotName k ++ ascii " " ++ slotName (k + 1) ++ backOf b
 

@@ -1,4 +1,4 @@
--- SMT-LIB's operators on words are ours, but for a remainder by zero.
+-- SMT-LIB's operators on words are ours.
 use Prim.Native.Nat.{ℕ, _+_, _-_, _*_, _/_, _%_, _^_, _≤_, _<_}
 use native.Mathlib.Omega.{arith}
 use native.Mathlib.Nat.{add-mod-mod, mul-mod-left, mul-assoc, mod-eq-of-lt, div-eq-of-lt, div-le-self, pow-le-pow-right}
@@ -7,9 +7,9 @@ use mathlib.Core.Bool.{Bool, true, false, cond, _&&_, _||_}
 use lib.Dec.{eqb, ltb, leb}
 use lib.Pow.{pow-add}
 use borrow.Author.Tests.{eqb-true, eqb-false, ltb-true, ltb-false, lt-ltb, le-ltb, le-leb, lt-leb}
-use Rattle.expr.specs.Word.{Word, Sub, Urem, Shl, Lshr, Slt, test, remainderByZero, binary}
+use Rattle.expr.specs.Word.{Word, Sub, Shl, Lshr, Slt, test, binary}
 use Rattle.expr.specs.WordLaws.{raised, same-ltb, slt-raised}
-use Rattle.script.specs.Smt.{bvsub, bvurem, bvshl, bvlshr, bvule, bvslt, bvBinary, sign, related}
+use Rattle.script.specs.Smt.{bvsub, bvshl, bvlshr, bvule, bvslt, bvBinary, sign, related}
 
 module _ (w a b : ℕ) where
   pub sub-is : bvBinary w bvsub a b ≡ binary w Sub a b
@@ -47,15 +47,6 @@ module _ (w a b : ℕ) where
       go true e t f = sym (le-leb a b (omega (arith, ltb-true a b e)))
       go false e true f = sym (le-leb a b (omega (arith, eqb-true a b f)))
       go false e false f = let n : a ≡ b → ⊥ = eqb-false a b f in sym (lt-leb a b (omega (arith, ltb-false a b e, n)))
-
--- the departure
-pub urem-is : (w a b : ℕ) → cond (eqb b 0) 0 (bvBinary w bvurem a b) ≡ binary w Urem a b
-unfolding bvBinary binary remainderByZero
-urem-is w a b = go (eqb b 0)
-  where
-    go : (t : Bool) → cond t 0 (cond t a (a % b)) ≡ cond t 0 (a % b)
-    go true = refl
-    go false = refl
 
 module _ (a b : ℕ) (h : Word a) (k : Word b) where
   low : (x : ℕ) → x < 2 ^ 31 → sign 32 x ≡ 0

@@ -3,8 +3,7 @@ use super::text;
 use super::text::SLOT;
 ghost use mathlib.Core.Option.{some};
 ghost use Prim.Native.Nat.{_+_, _≤_, _<_, _^_};
-ghost use Rattle.expr.specs.Word.{Urem};
-ghost use Rattle.expr.specs.Token.{Bin, Ite, operator};
+ghost use Rattle.expr.specs.Token.{Ite, operator};
 ghost use Rattle.expr.specs.Shown.{popsOf};
 ghost use Rattle.write.specs.Splice.{Wrote};
 ghost use Rattle.script.specs.Shown.{frontOf, binaryText, wordText};
@@ -48,7 +47,6 @@ fn put_unary(code: u8, k: usize, out: &mut [u8], at: usize) -> usize
     write::fit_byte(0x29, out, b)
 }
 
-// A remainder's is here without its test of the divisor.
 fn put_binary(code: u8, k: usize, out: &mut [u8], at: usize) -> usize
     requires { ⌜ (0 < popsOf code) × (k < 17) × (at + 62 < 2 ^ 64) ⌝ }
     ensures { λ r. ⌜ Wrote (now (out .entry)) at (binaryText k code) (now (out .exit)) r × (r ≤ at + 62) ⌝ }
@@ -60,18 +58,6 @@ fn put_binary(code: u8, k: usize, out: &mut [u8], at: usize) -> usize
     if 0x2A <= code {
         return write::fit_part(b") #x00000001 #x00000000)", out, d);
     }
-    write::fit_byte(0x29, out, d)
-}
-
-// A remainder by zero is 0.
-fn put_urem(k: usize, out: &mut [u8], at: usize) -> usize
-    requires { ⌜ (k < 17) × (at + 106 < 2 ^ 64) ⌝ }
-    ensures { λ r. ⌜ Wrote (now (out .entry)) at (wordText k (some (Bin Urem))) (now (out .exit)) r × (r ≤ at + 106) ⌝ }
-{
-    let a = write::fit_part(b"(ite (= ", out, at);
-    let b = text::put_name(SLOT, k + 1, out, a);
-    let c = write::fit_part(b" #x00000000) #x00000000 ", out, b);
-    let d = put_binary(0x24, k, out, c);
     write::fit_byte(0x29, out, d)
 }
 
@@ -90,17 +76,14 @@ fn put_ite(k: usize, out: &mut [u8], at: usize) -> usize
 
 // The word that an operator pushes onto k words.
 pub fn put_operator(code: u8, k: usize, out: &mut [u8], at: usize) -> usize
-    requires { ⌜ (0 < popsOf code) × (k < 17) × (at + 106 < 2 ^ 64) ⌝ }
-    ensures { λ r. ⌜ Wrote (now (out .entry)) at (wordText k (operator code)) (now (out .exit)) r × (r ≤ at + 106) ⌝ }
+    requires { ⌜ (0 < popsOf code) × (k < 17) × (at + 63 < 2 ^ 64) ⌝ }
+    ensures { λ r. ⌜ Wrote (now (out .entry)) at (wordText k (operator code)) (now (out .exit)) r × (r ≤ at + 63) ⌝ }
 {
     if code < 0x20 {
         return put_unary(code, k, out, at);
     }
     if 0x30 <= code {
         return put_ite(k, out, at);
-    }
-    if code == 0x24 {
-        return put_urem(k, out, at);
     }
     put_binary(code, k, out, at)
 }

@@ -34,8 +34,8 @@ fn pops_of(t: Read) -> usize
 
 // The word that a token pushes onto k words.
 fn put_word(t: Read, k: usize, out: &mut [u8], at: usize) -> usize
-    requires { ⌜ Writable t × (k < 17) × (at + 106 < 2 ^ 64) ⌝ }
-    ensures { λ r. ⌜ Wrote (now (out .entry)) at (readText k t) (now (out .exit)) r × (r ≤ at + 106) ⌝ }
+    requires { ⌜ Writable t × (k < 17) × (at + 63 < 2 ^ 64) ⌝ }
+    ensures { λ r. ⌜ Wrote (now (out .entry)) at (readText k t) (now (out .exit)) r × (r ≤ at + 63) ⌝ }
 {
     match t {
         Read::Nothing => at,

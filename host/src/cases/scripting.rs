@@ -70,7 +70,7 @@ pub fn words() -> Vec<KnownScript> {
         binary("sub", "(bvsub x0 x1)"),
         binary("mul", "(bvmul x0 x1)"),
         binary("udiv", "(bvudiv x0 x1)"),
-        binary("urem", "(ite (= x1 #x00000000) #x00000000 (bvurem x0 x1))"),
+        binary("urem", "(bvurem x0 x1)"),
         binary("and", "(bvand x0 x1)"),
         binary("or", "(bvor x0 x1)"),
         binary("xor", "(bvxor x0 x1)"),
@@ -88,7 +88,7 @@ pub fn words() -> Vec<KnownScript> {
 pub fn slots() -> Vec<KnownScript> {
     let zero = |k| format!("x{k} (ite (= x{k} #x00000000) #x00000001 #x00000000)");
     let and = |k| format!("x{k} (bvand x{k} x{})", k + 1);
-    let urem = |k| format!("x{k} (ite (= x{0} #x00000000) #x00000000 (bvurem x{k} x{0}))", k + 1);
+    let urem = |k| format!("x{k} (bvurem x{k} x{})", k + 1);
     let ite = |k| format!("x{k} (ite (distinct x{k} #x00000000) x{} x{})", k + 1, k + 2);
     vec![
         on_words("17 words", 17, &["and"; 16], (0..16).rev().map(and)),
@@ -188,9 +188,9 @@ pub fn limits() -> Vec<KnownScript> {
 /// The trace whose script is the longest: all inputs, and one Assert, which is `zero` again and again, in slot 10.
 pub fn longest() -> Vec<u8> {
     const ZERO: u8 = 0x12;
-    const UREM: u8 = 0x24;
+    const ULT: u8 = 0x2B;
     let trace = |zeros| {
-        let expression = [(53..64).flat_map(read).collect(), vec![ZERO; zeros], vec![UREM; 10]].concat();
+        let expression = [(53..64).flat_map(read).collect(), vec![ZERO; zeros], vec![ULT; 10]].concat();
         encoding::trace(64, &[assert(0, &expression)])
     };
     trace(LENGTH_LIMIT - trace(0).len())

@@ -168,7 +168,7 @@ impl Stack {
             SUB => self.binary(|a, b| a.wrapping_sub(b)),
             MUL => self.binary(|a, b| a.wrapping_mul(b)),
             UDIV => self.binary(|a, b| a.checked_div(b).unwrap_or(u32::MAX)),
-            UREM => self.binary(|a, b| a.checked_rem(b).unwrap_or(0)),
+            UREM => self.binary(|a, b| a.checked_rem(b).unwrap_or(a)),
             AND => self.binary(|a, b| a & b),
             OR => self.binary(|a, b| a | b),
             XOR => self.binary(|a, b| a ^ b),

@@ -150,10 +150,7 @@ fn put_operation(operator: u8, slot: usize, out: &mut impl Sink) {
         SUB => put_binary(b"(bvsub ", slot, b")", out),
         MUL => put_binary(b"(bvmul ", slot, b")", out),
         UDIV => put_binary(b"(bvudiv ", slot, b")", out),
-        UREM => {
-            put_unary(b"(ite (= ", slot + 1, b" #x00000000) #x00000000 ", out);
-            put_binary(b"(bvurem ", slot, b"))", out);
-        }
+        UREM => put_binary(b"(bvurem ", slot, b")", out),
         AND => put_binary(b"(bvand ", slot, b")", out),
         OR => put_binary(b"(bvor ", slot, b")", out),
         XOR => put_binary(b"(bvxor ", slot, b")", out),

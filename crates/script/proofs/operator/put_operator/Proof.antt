@@ -1,8 +1,8 @@
--- By the range of the code: unary, choice, remainder, any other binary operator.
+-- By the range of the code: unary, choice, binary.
 use borrow.Author.Needs.{needs}
 use native.Mathlib.Omega.{arith}
 use Rattle.write.specs.SpliceLaws.{wrote-as}
-use Rattle.script.proofs.Operators.{binary-text, ite-word, urem-word}
+use Rattle.script.proofs.Operators.{binary-text, ite-word}
 use Rattle.script.proofs.operator.put_operator.Statement.{statement}
 use Rattle.script.proofs.operator.put_operator.Tie as tie
 
@@ -28,32 +28,19 @@ returns-2 c =
     let put-ite = c .before .before .put-ite in
     (wrote-as (ite-word _ _ (search needs) (start .pre .0) (if2 .taken)) (put-ite .ensures .0), omega (arith, put-ite .ensures .1))
 
-put-urem-requires : tie.Need-put-urem-requires
-put-urem-requires c κs = search needs
+put-binary-requires : tie.Need-put-binary-requires
+put-binary-requires c κs = search needs
 
 same-length-3 : tie.Need-same-length-3
 same-length-3 c = search needs
 
 returns-3 : tie.Need-returns-3
 returns-3 c =
-    let if3 = c .before .before .before .before .if3 in
-    let put-urem = c .before .before .put-urem in
-    (wrote-as (urem-word _ _ (if3 .taken)) (put-urem .ensures .0), put-urem .ensures .1)
-
-put-binary-requires : tie.Need-put-binary-requires
-put-binary-requires c κs = search needs
-
-same-length-4 : tie.Need-same-length-4
-same-length-4 c = search needs
-
-returns-4 : tie.Need-returns-4
-returns-4 c =
-    let start = c .before .before .before .before .before .before .before .before in
-    let if1 = c .before .before .before .before .before .before .if1 in
-    let if2 = c .before .before .before .before .before .if2 in
-    let if3 = c .before .before .before .before .if3 in
+    let start = c .before .before .before .before .before .before .before in
+    let if1 = c .before .before .before .before .before .if1 in
+    let if2 = c .before .before .before .before .if2 in
     let put-binary = c .before .before .put-binary in (
-      wrote-as (binary-text _ _ (search needs) (start .pre .0) (if1 .left) (if2 .left) (if3 .left)) (put-binary .ensures .0),
+      wrote-as (binary-text _ _ (search needs) (start .pre .0) (if1 .left) (if2 .left)) (put-binary .ensures .0),
       omega (arith, put-binary .ensures .1),
     )
 
@@ -67,9 +54,6 @@ put-operator-spec =
     put-ite-requires
     same-length-2
     returns-2
-    put-urem-requires
-    same-length-3
-    returns-3
     put-binary-requires
-    same-length-4
-    returns-4)
+    same-length-3
+    returns-3)
