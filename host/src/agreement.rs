@@ -1,6 +1,6 @@
 //! What the calls say of one another. Demand 3 and request 2026-01: run and judged trace agree on verdict and place, a judged
-//! slice on unsafe or not and the place, and for these only inputs that the slice reads matter; then what slices are for, and
-//! the text that is printed of them.
+//! slice on unsafe or not and the place, and for these only inputs that the slice reads matter; request 2026-13: what a
+//! higher bound changes; then what slices are for, and the text that is printed of them.
 
 use crate::archive::Calls;
 use crate::case::{Case, JudgeCase, PrintCase, RunCase};
@@ -80,6 +80,52 @@ pub fn within(case: &RunCase, calls: &dyn Calls) -> Asked {
     };
     let line = || format!("verdict {verdict} at {place} after {back_jumps} back jumps under {}, n={n}", case.bound);
     Asked { reply, counts: verdict == UNSAFE, wrong: if is_right { vec![] } else { vec![line()] } }
+}
+
+/// Bounds above one that a call takes.
+fn higher_bounds(bound: u64) -> Vec<u64> {
+    [bound + 1, 2 * bound + 3, 255].into_iter().filter(|&higher| bound < higher && higher <= 255).collect()
+}
+
+/// A run that is not cut gives the very same answer under every higher bound. It speaks of those for which a trace under the
+/// highest bound can't be written; traces are for `raised_traces`.
+pub fn raised_runs(case: &RunCase, calls: &dyn Calls) -> Asked {
+    let RunCase { table, bound, valuation } = case;
+    let lower = calls.run(table, *bound, valuation);
+    let higher_bounds = higher_bounds(*bound);
+    if lower.reply != 0 || lower.verdict == CUT || higher_bounds.is_empty() {
+        return Asked { reply: lower.reply, counts: false, wrong: vec![] };
+    }
+    let changed = |&higher: &u64| {
+        let answer = calls.run(table, higher, valuation);
+        (answer != lower).then(|| format!("under {higher}: {answer:?}, not {lower:?}"))
+    };
+    let is_unwritable = calls.whole_trace(table, 255).is_empty();
+    Asked { reply: 0, counts: is_unwritable, wrong: higher_bounds.iter().filter_map(changed).collect() }
+}
+
+/// Of a trace under a bound and one under a higher one: judged, the higher gives what the lower gives, unless that is cut; its
+/// slice is violated where the lower one's is. It says nothing where one of them can't be written.
+pub fn raised_traces(case: &RunCase, calls: &dyn Calls) -> Asked {
+    let RunCase { table, bound, valuation } = case;
+    let trace = |bound| Some(calls.whole_trace(table, bound)).filter(|trace| !trace.is_empty());
+    let highers: Vec<Vec<u8>> = higher_bounds(*bound).into_iter().filter_map(trace).collect();
+    let lower = trace(*bound).unwrap_or_default();
+    let expected = calls.judge(&lower, valuation);
+    if expected.reply != 0 || expected.verdict == CUT || highers.is_empty() {
+        return Asked { reply: expected.reply, counts: false, wrong: vec![] };
+    }
+    let of_lower_slice = judge(&calls.whole_slice(&lower), valuation, calls).unsafe_or_not();
+    let mut wrong = vec![];
+    for higher in &highers {
+        let answer = calls.judge(higher, valuation);
+        if answer != expected {
+            wrong.push(format!("under a higher bound: {answer:?}, not {expected:?}"));
+        }
+        let of_slice = judge(&calls.whole_slice(higher), valuation, calls).unsafe_or_not();
+        wrong.extend(of_slice.difference("the slice under a higher bound", of_lower_slice));
+    }
+    Asked { reply: 0, counts: true, wrong }
 }
 
 /// A slice is unsafe where its trace is, at its place, or not at all.

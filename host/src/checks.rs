@@ -43,6 +43,22 @@ pub const WITHIN: Check<RunCase> = Check {
     ask: agreement::within,
 };
 
+pub const RAISED_RUNS: Check<RunCase> = Check {
+    name: "raised-runs",
+    count: 50_000,
+    speaks_of: Some(("a run that is not cut, of a rule without a trace under 255", 2_000)),
+    generate: generate::run_case,
+    ask: agreement::raised_runs,
+};
+
+pub const RAISED_TRACES: Check<RunCase> = Check {
+    name: "raised-traces",
+    count: 20_000,
+    speaks_of: Some(("a trace that is not cut, and one under a higher bound", 20_000)),
+    generate: generate::unwound_run_case,
+    ask: agreement::raised_traces,
+};
+
 pub const OLD_JUDGED: Check<JudgeCase> = Check {
     name: "old-judged",
     count: 40_000,
@@ -112,7 +128,7 @@ pub const SOLVED: Check<RunCase> = Check {
 };
 
 /// The checks of the archive alone.
-pub const OF_ARCHIVE: [&dyn AnyCheck; 11] = [
+pub const OF_ARCHIVE: [&dyn AnyCheck; 13] = [
     &RUN,
     &JUDGE,
     &TRACE,
@@ -120,6 +136,8 @@ pub const OF_ARCHIVE: [&dyn AnyCheck; 11] = [
     &SCRIPT,
     &DEMAND_3,
     &WITHIN,
+    &RAISED_RUNS,
+    &RAISED_TRACES,
     &OLD_JUDGED,
     &SLICE_JUDGED,
     &SLICE_UNREAD,

@@ -54,6 +54,28 @@ fn a_place_without_the_exits_is_noticed() {
 }
 
 #[test]
+fn a_place_that_depends_on_the_bound_is_noticed() {
+    struct Liar;
+    impl Calls for Liar {
+        fn run_place(&self, table: &[u8], bound: u64, valuation: &[u8]) -> u32 {
+            match ARCHIVE.run_place(table, bound, valuation) {
+                place @ 1.. if bound > 200 => place + 1,
+                place => place,
+            }
+        }
+
+        fn judge_place(&self, trace: &[u8], valuation: &[u8]) -> u32 {
+            match ARCHIVE.judge_place(trace, valuation) {
+                place @ 1.. if count(trace) > 1_000 => place + 1,
+                place => place,
+            }
+        }
+    }
+    is_noticed_by(&checks::RAISED_RUNS, "places that depend on the bound", &Liar);
+    is_noticed_by(&checks::RAISED_TRACES, "places that depend on the bound", &Liar);
+}
+
+#[test]
 fn a_count_of_255_back_jumps_off_by_one_is_noticed() {
     struct Liar;
     impl Calls for Liar {
@@ -317,6 +339,7 @@ fn a_cut_run_called_ended_is_noticed() {
     }
     is_noticed_by(&checks::RUN, "a cut run called ended", &Liar);
     is_noticed_by(&checks::DEMAND_3, "a cut run called ended", &Liar);
+    is_noticed_by(&checks::RAISED_RUNS, "a cut run called ended", &Liar);
 }
 
 #[test]
@@ -332,6 +355,7 @@ fn a_cut_trace_called_stopped_is_noticed() {
     }
     is_noticed_by(&checks::JUDGE, "a cut trace called stopped", &Liar);
     is_noticed_by(&checks::DEMAND_3, "a cut trace called stopped", &Liar);
+    is_noticed_by(&checks::RAISED_TRACES, "a cut trace called stopped", &Liar);
 }
 
 #[test]

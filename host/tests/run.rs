@@ -129,6 +129,16 @@ fn an_unsafe_run_took_at_most_k_back_jumps_and_its_place_is_that_of_an_instructi
     hold(&checks::WITHIN);
 }
 
+#[test]
+fn a_run_that_is_not_cut_is_the_same_under_every_higher_bound() {
+    hold(&checks::RAISED_RUNS);
+}
+
+#[test]
+fn a_judged_trace_that_is_not_cut_is_the_same_under_every_higher_bound_and_so_is_its_slice() {
+    hold(&checks::RAISED_TRACES);
+}
+
 /// What a case shows, in the words of `DUE`.
 fn features(case: &RunCase, answer: RunAnswer) -> Vec<String> {
     if answer.reply != 0 {

@@ -84,6 +84,10 @@ shown-old (Failed Assert p) = (refl, refl)
 shown-old (Failed Bound p) = (refl, refl)
 shown-old Lost = (refl, refl)
 
+-- a run's answer as judging gives it
+abbrev pub judgedAs : Ran.Answer → Judged.Answer
+judgedAs a = record { reply = a .reply; offset = a .offset; verdict = a .verdict; place = a .place }
+
 -- ---- what was written is read
 
 module _ (b : List ℕ) (K : ℕ) (head : Head) (is : List Instr) (t : List ℕ) (o : All Byte b) (w : IsTrace b K head is t) where
@@ -208,8 +212,14 @@ module _ (b : List ℕ) (K : ℕ) (head : Head) (is : List Instr) (t : List ℕ)
       let kept = slice-alike ts (envOf v) (envOf v) (λ x r. refl) in
       (ran .0 ∙ kept .0, ran .1 ∙ kept .1)
 
-  judged-trace : (v : List ℕ) → Same asIs (runAnswer b K v) (judgeAnswer t v)
-  judged-trace v = same-as-run t read-back refl asIs refl v (ap verdict (sym (traced v)), ap placeOf (sym (traced v)))
+  -- to the last number
+  judged-trace : (v : List ℕ) → judgeAnswer t v ≡ judgedAs (runAnswer b K v)
+  judged-trace v = judge-tested t read-back refl v ∙ go (eqb (length v) S) ∙ sym (ap judgedAs (run-tested v))
+    where
+      go : (x : Bool) → cond x (Judging.answerOf (judge ts (envOf v))) (Judging.refusal 11 0)
+          ≡ judgedAs (cond x (Running.answerOf (run is K v)) (Running.refusal 11 0))
+      go true = ap Judging.answerOf (traced v)
+      go false = refl
 
   judged-old : (v : List ℕ) → Same cutAsStopped (runAnswer b K v) (judgeAnswer (encodeTrace oldHead olds) v)
   judged-old v =
@@ -309,6 +319,9 @@ module _ (b : List ℕ) (K : ℕ) (head : Head) (is : List Instr) (t : List ℕ)
     whole : (v : List ℕ) → judgedWith h t v ≡ judgeAnswer t (wordsIn h S v)
     whole v = judged-as t read-back refl v
 
+    judged-whole : (v : List ℕ) → judgedWith h t v ≡ judgedAs (ranWith h b K v)
+    judged-whole v = whole v ∙ judged-trace (wordsIn h S v) ∙ sym (ap judgedAs (ran v))
+
     sliced : (v : List ℕ) → judgedWith h cut v ≡ judgeAnswer cut (wordsIn h S v)
     sliced v = judged-as cut slice-back refl v
 
@@ -340,7 +353,7 @@ module _ (b : List ℕ) (K : ℕ) (head : Head) (is : List Instr) (t : List ℕ)
             ap (λ a. a .reply) (whole v ∙ judge-done t read-back refl (wordsIn h S v) l),
             ap (λ a. a .reply) (sliced v ∙ judge-done cut slice-back refl (wordsIn h S v) l),
           );
-      one-verdict = λ v. both (Same asIs) t v (whole v) (judged-trace (wordsIn h S v));
+      one-verdict = λ v. subst⁻¹ (Same asIs (ranWith h b K v)) (judged-whole v) (refl, refl, refl);
       run-trace = λ v p.
           both (λ a j. RunUnsafeAt p a ↔ UnsafeAt p j) t v (whole v)
           (unsafe-as-run t read-back refl (wordsIn h S v) (run-alike (wordsIn h S v)) p);
@@ -369,6 +382,13 @@ module _ (b : List ℕ) (K : ℕ) (head : Head) (is : List Instr) (t : List ℕ)
     alike = λ h room e. subst (OneAnswer h b K t) (sym (slice-answer room e)) (one-answer h);
     old = old-answer;
   }
+
+-- judging the trace answers what running the table does
+pub judged-run : (b : List ℕ) (K room : ℕ) → All Byte b → (traceAnswer b K room) .reply ≡ 0 → (h : Handed) (v : List ℕ)
+    → judgedWith h ((traceAnswer b K room) .bytes) v ≡ judgedAs (ranWith h b K v)
+judged-run b K room o done =
+    let found = trace-written b K room done in
+    judged-whole b K (found .0) (found .1) ((traceAnswer b K room) .bytes) o (found .2)
 
 pub demand3 : (b : List ℕ) (K room : ℕ) → All Byte b → (traceAnswer b K room) .reply ≡ 0 → Demand3 b K ((traceAnswer b K room) .bytes)
 demand3 b K room o h =

@@ -12,5 +12,7 @@ pub mod Demand3Proof
 pub mod Demand3Cases
 -- Request 2026-02.
 pub mod SolverProof
+-- Request 2026-13.
+pub mod RaisingProof
 -- Calls from C that write one after the other into one buffer.
 pub mod Again

@@ -5,6 +5,7 @@ use Rattle.demands.proofs.RepliesProof.{run-demand1, judge-demand1, wri
 use Rattle.demands.proofs.RefusalsProof as Rest
 use Rattle.demands.proofs.Demand3Proof as Third
 use Rattle.demands.proofs.SolverProof as Asked
+use Rattle.demands.proofs.RaisingProof as Raised
 
 pub promised : Promised
 promised = record {
@@ -25,4 +26,7 @@ promised = record {
   script-room = Room.script-room;
   posed = Asked.posed;
   solver = Asked.solver;
+  runs-raised = Raised.runs-raised;
+  traces-raised = Raised.traces-raised;
+  settled = Raised.settled;
 }

@@ -20,6 +20,7 @@ use Rattle.demands.specs.Refusals.{RunRest, JudgeRest, TraceRest, SliceR
 use Rattle.demands.specs.Refusals.{ScriptGivesRest}
 use Rattle.demands.specs.Demand3.{Demand3}
 use Rattle.demands.specs.Solver.{Posed, Solver}
+use Rattle.demands.specs.Raising.{RunsRaised, TracesRaised, Settled}
 
 pub record Promised : Type 0 where
   -- demand 1: a numbered refusal exactly when its row is the first that holds
@@ -53,3 +54,9 @@ pub record Promised : Type 0 where
   pub posed : (t : List ℕ) (room : ℕ) → All Byte t → (scriptAnswer t room) .reply ≡ 0 → Posed t
   -- and what a solver answers to the script of that trace, or of its slice, is whether the rule fails within the bound
   pub solver : (b : List ℕ) (K room : ℕ) → All Byte b → (traceAnswer b K room) .reply ≡ 0 → Solver b K ((traceAnswer b K room) .bytes)
+  -- request 2026-13: a higher bound finds every violation that a lower one finds, and changes no run that the lower one does not cut
+  pub runs-raised : (b : List ℕ) (K L : ℕ) → All Byte b → K ≤ L → L ≤ 255 → RunsRaised b K L
+  pub traces-raised : (b : List ℕ) (K L room room′ : ℕ) → All Byte b → K ≤ L → (traceAnswer b K room) .reply ≡ 0
+      → (traceAnswer b L room′) .reply ≡ 0 → TracesRaised ((traceAnswer b K room) .bytes) ((traceAnswer b L room′) .bytes)
+  -- and stamps with which a run neither fails nor is cut fail under no bound
+  pub settled : (b : List ℕ) (K : ℕ) → All Byte b → K ≤ 255 → Settled b K
