@@ -115,12 +115,12 @@ cut-bit w i n h =
     ap (λ x. n % 2 ^ x / 2 ^ i % 2) e ∙ ap (λ x. x % 2) (field n (j + 1) i) ∙ mod-mod-pow (n / 2 ^ i) j 1
 
 module _ (i a b : ℕ) where
-  moved-bit : b ≤ i → bit i (a * 2 ^ b) ≡ bit (i - b) a
+  pub moved-bit : b ≤ i → bit i (a * 2 ^ b) ≡ bit (i - b) a
   moved-bit l =
       let e : i ≡ b + (i - b) = omega arith in
       ap (λ x. a * 2 ^ b / 2 ^ x % 2) e ∙ ap (λ x. x % 2) (sym (shr-shr (a * 2 ^ b) b (i - b)) ∙ ap (λ x. x / 2 ^ (i - b)) (shl-shr a b))
 
-  bit-moved-in : i < b → bit i (a * 2 ^ b) ≡ 0
+  pub bit-moved-in : i < b → bit i (a * 2 ^ b) ≡ 0
   bit-moved-in l =
       let j = b - i - 1 in
       let e : b ≡ suc j + i = omega arith in

@@ -10,7 +10,7 @@ use mathlib.Core.Bool.{Bool, true, false, cond}
 use lib.Arith.{digits-div, digits-mod}
 use lib.Dec.{eqb, ltb, leb}
 use lib.Pow.{pow-pos, pow-add, shr-lt, split}
-use lib.Bits.{differ, and-lt, or-lt, xor-lt, and-shr, or-shr, xor-shr, and-step, or-step, xor-step}
+use lib.Bits.{bitOr, differ, and-lt, or-lt, xor-lt, and-shr, or-shr, xor-shr, and-step, or-step, xor-step}
 use lib.IntN.{pos, negsuc, subℕ}
 use lib.Signed.{ltZ}
 use borrow.Author.Tests.{ltb-true, ltb-false, lt-ltb, le-ltb, ne-eqb}
@@ -86,6 +86,11 @@ lowest f g p q r s rest a b =
     ∙ each-bit (λ x. f x (b % 2) % 2 ≡ g x (b % 2)) (each-bit (λ y. f 0 y % 2 ≡ g 0 y) p q (b % 2) (omega arith))
     (each-bit (λ y. f 1 y % 2 ≡ g 1 y) r s (b % 2) (omega arith)) (a % 2) (omega arith)
 
+pub or-number-bit : (i a b : ℕ) → bit i (bitOr a b) ≡ max (bit i a) (bit i b)
+or-number-bit i a b =
+    ap (λ n. n % 2) (or-shr a b i ∙ or-step (a / 2 ^ i) (b / 2 ^ i))
+    ∙ lowest max max refl refl refl refl _ (a / 2 ^ i) (b / 2 ^ i)
+
 module _ (w i a b : ℕ) where
   pub and-bit : bit i (binary w And a b) ≡ min (bit i a) (bit i b)
   unfolding binary
@@ -95,9 +100,7 @@ module _ (w i a b : ℕ) where
 
   pub or-bit : bit i (binary w Or a b) ≡ max (bit i a) (bit i b)
   unfolding binary
-  or-bit =
-      ap (λ n. n % 2) (or-shr a b i ∙ or-step (a / 2 ^ i) (b / 2 ^ i))
-      ∙ lowest max max refl refl refl refl _ (a / 2 ^ i) (b / 2 ^ i)
+  or-bit = or-number-bit i a b
 
   pub xor-bit : bit i (binary w Xor a b) ≡ (bit i a + bit i b) % 2
   unfolding binary

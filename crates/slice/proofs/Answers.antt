@@ -39,7 +39,7 @@ module _ (s out : List ℕ) where
 
 -- ---- the slice is found
 
-module _ (s : List ℕ) (is : readTrace s ≡ Accepted (headOf s) (listed (readTrace s))) (flags needed : List Bool) (k : Kept)
+module _ (s : List ℕ) (is : readTrace s ≡ Accepted (headOf s) (listed (readTrace s))) (flags : List Bool) (needed : List ℕ) (k : Kept)
     (w : WalkedBack (listed (readTrace s)) flags needed k) where
   abbrev head : Head
   head = headOf s

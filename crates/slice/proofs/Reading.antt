@@ -4,10 +4,8 @@ use mathlib.Core.Path.{_≡_, refl, sym, ap, _∙_}
 use mathlib.Core.Bool.{Bool, true, false, _||_}
 use mathlib.Core.Option.{Option}
 use mathlib.Core.List.{List}
-use lib.ListN.{length, drop, set}
-use lib.Seq.{getD-set-same, getD-set-other}
+use lib.ListN.{length, drop}
 use lib.Dec.{eqb}
-use borrow.Author.Tests.{eqb-true, eqb-false}
 use Rattle.expr.specs.declared.File.the-variants.{Trace}
 use Rattle.expr.specs.declared.token.Read.{Read}
 use Rattle.expr.specs.declared.token.Read.the-variants as R
@@ -18,31 +16,22 @@ use Rattle.expr.specs.Eval.{readsToken, reads}
 use Rattle.expr.specs.Shown.{shownToken, readSize, isWhole, tokensOf, sizeOf}
 use Rattle.expr.proofs.Reading.{shown-nothing, shown-constant, shown-symbol, shown-operator, read-size}
 use Rattle.expr.proofs.Rests.{Rest, tokens, rest-start, turn, rest-end}
-use Rattle.slice.specs.Shown.{inSet, readsRead}
-
--- ---- a set
-
-pub in-marked : (marks : List Bool) (k : ℕ) → k < length marks → (x : ℕ) → inSet (set marks k true) x ≡ (eqb x k || inSet marks x)
-in-marked marks k h x = go (eqb x k) refl
-  where
-    go : (b : Bool) → eqb x k ≡ b → inSet (set marks k true) x ≡ (b || inSet marks x)
-    go true e = ap (inSet (set marks k true)) (eqb-true x k e) ∙ getD-set-same marks k true false h
-    go false e = getD-set-other marks k x true false (eqb-false x k e)
+use Rattle.slice.specs.Shown.{inSet, roomIn, readsRead}
 
 -- ---- a token
 
 -- the token at a place has m bytes, and what it reads is marked
-abbrev Marks : (e : List ℕ) (i m : ℕ) (needed needed′ : List Bool) → Type 0
+abbrev Marks : (e : List ℕ) (i m : ℕ) (needed needed′ : List ℕ) → Type 0
 Marks e i m needed needed′ =
     (m ≡ sizeOf Trace (readToken Trace (drop i e)))
     × ((x : ℕ) → inSet needed′ x ≡ (readsRead x (readToken Trace (drop i e)) || inSet needed x))
 
 module _ (e : List ℕ) (i : ℕ) {t : Read} (q : t ≡ shownToken (readToken Trace (drop i e))) {m : ℕ} (n : m ≡ readSize Trace t)
-    (needed : List Bool) where
+    (needed : List ℕ) where
   abbrev o : Option Token
   o = readToken Trace (drop i e)
 
-  pub symbol-marks : {s : ℕ} → t ≡ R.Symbol s → (needed′ : List Bool) → ((x : ℕ) → inSet needed′ x ≡ (eqb x s || inSet needed x))
+  pub symbol-marks : {s : ℕ} → t ≡ R.Symbol s → (needed′ : List ℕ) → ((x : ℕ) → inSet needed′ x ≡ (eqb x s || inSet needed x))
       → Marks e i m needed needed′
   symbol-marks {s} p needed′ r =
       (n ∙ read-size Trace o q, λ x. r x ∙ sym (ap (λ o. readsRead x o || inSet needed x) (shown-symbol o s (sym q ∙ p))))
@@ -71,26 +60,26 @@ module _ (e : List ℕ) (i : ℕ) {t : Read} (q : t ≡ shownToken (readToken Tr
 -- ---- the loop
 
 -- what is marked, with what the tokens that are left read, is what the expression reads
-pub record Marking (e : List ℕ) (needed₀ needed : List Bool) (i : ℕ) : Type 0 where
+pub record Marking (e : List ℕ) (needed₀ needed : List ℕ) (i : ℕ) : Type 0 where
   pub long : length needed ≡ length needed₀
-  pub rest : Rest Trace (length needed₀) e i
+  pub rest : Rest Trace (roomIn needed₀) e i
   pub same : (x : ℕ) → (reads x (tokens rest) || inSet needed x)
-      ≡ (reads x (tokensOf (parse Trace (below (length needed₀)) e)) || inSet needed₀ x)
+      ≡ (reads x (tokensOf (parse Trace (below (roomIn needed₀)) e)) || inSet needed₀ x)
 
-pub marking-start : (e : List ℕ) (needed : List Bool) → isWhole (parse Trace (below (length needed)) e) ≡ true → Marking e needed needed 0
-marking-start e needed h = record { long = refl; rest = rest-start Trace (length needed) e h; same = λ x. refl }
+pub marking-start : (e : List ℕ) (needed : List ℕ) → isWhole (parse Trace (below (roomIn needed)) e) ≡ true → Marking e needed needed 0
+marking-start e needed h = record { long = refl; rest = rest-start Trace (roomIn needed) e h; same = λ x. refl }
 
 or-moved : (a b c : Bool) → (b || (a || c)) ≡ ((a || b) || c)
 or-moved true true c = refl
 or-moved true false c = refl
 or-moved false b c = refl
 
-module _ {e : List ℕ} {needed₀ needed : List Bool} {i : ℕ} (v : Marking e needed₀ needed i) where
-  pub record MarkOn (needed′ : List Bool) (m : ℕ) : Type 0 where
+module _ {e : List ℕ} {needed₀ needed : List ℕ} {i : ℕ} (v : Marking e needed₀ needed i) where
+  pub record MarkOn (needed′ : List ℕ) (m : ℕ) : Type 0 where
     pub some-byte : 1 ≤ m
     pub then : Marking e needed₀ needed′ (i + m)
 
-  pub mark-on : i < length e → {needed′ : List Bool} {m : ℕ} → length needed′ ≡ length needed → Marks e i m needed needed′
+  pub mark-on : i < length e → {needed′ : List ℕ} {m : ℕ} → length needed′ ≡ length needed → Marks e i m needed needed′
       → MarkOn needed′ m
   mark-on h {needed′} {m} l (q, r) =
       let t = turn (v .rest) h m q in
@@ -109,5 +98,5 @@ module _ {e : List ℕ} {needed₀ needed : List Bool} {i : ℕ} (v : Marking e 
       }
 
   pub all-marked : length e ≤ i → (x : ℕ) → inSet needed x
-      ≡ (reads x (tokensOf (parse Trace (below (length needed₀)) e)) || inSet needed₀ x)
+      ≡ (reads x (tokensOf (parse Trace (below (roomIn needed₀)) e)) || inSet needed₀ x)
   all-marked h x = sym (ap (λ ts. reads x ts || inSet needed x) (rest-end (v .rest) h)) ∙ v .same x

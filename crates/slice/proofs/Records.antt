@@ -82,7 +82,7 @@ module _ {s : List ℕ} {at : ℕ} (h : Held symbolRoom loose s at) where
   -- ---- what it reads
 
   -- with the code's own number of symbols
-  pub reads-marked : (T : ℕ) → T ≡ symbolRoom → {e : List ℕ} → e ≡ exprPart s at → (needed needed′ : List Bool)
+  pub reads-marked : (T : ℕ) → T ≡ symbolRoom → {e : List ℕ} → e ≡ exprPart s at → (needed needed′ : List ℕ)
       → ((x : ℕ) → inSet needed′ x ≡ (reads x (tokensOf (parse Trace (below T) e)) || inSet needed x))
       → (x : ℕ) → inSet needed′ x ≡ (readsIn x (held (drop at s)) || inSet needed x)
   reads-marked T t q needed needed′ m x =
@@ -92,9 +92,9 @@ module _ {s : List ℕ} {at : ℕ} (h : Held symbolRoom loose s at) where
 
   -- ---- one step back
 
-  module _ (k : ℕ) (behind : Kept) (kept needed : List Bool) (b : Bool)
+  module _ (k : ℕ) (behind : Kept) (kept : List Bool) (needed : List ℕ) (b : Bool)
       (q : b ≡ keepIn (behind .asserts) (inSet needed) (held (drop at s))) where
-    pub stepped-kept : b ≡ true → (needed′ : List Bool) → ((x : ℕ) → inSet needed′ x ≡ (readsIn x (held (drop at s)) || inSet needed x))
+    pub stepped-kept : b ≡ true → (needed′ : List ℕ) → ((x : ℕ) → inSet needed′ x ≡ (readsIn x (held (drop at s)) || inSet needed x))
         → (a : Bool) → a ≡ (eqb (getD s (at + 2) 0) 3 || behind .asserts) → (len : ℕ) → len ≡ numberOf 2 (drop at s)
         → Stepped (held (drop at s)) (2 + numberOf 2 (drop at s)) k behind kept needed (set kept k true) needed′
         (record { asserts = a; count = behind .count + 1; size = behind .size + (2 + len) })

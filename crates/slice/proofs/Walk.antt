@@ -46,7 +46,8 @@ records-from (suc k) (t ∷ ts) = omega (arith, records-from k ts, length-append
 
 -- ---- the loop
 
-pub record Walking (ts : List Stmt) (kept₀ needed₀ kept needed : List Bool) (k : ℕ) (behind : Kept) : Type 0 where
+pub record Walking (ts : List Stmt) (kept₀ : List Bool) (needed₀ : List ℕ) (kept : List Bool) (needed : List ℕ) (k : ℕ)
+    (behind : Kept) : Type 0 where
   pub inside : k ≤ length ts
   pub kept-long : length kept ≡ length kept₀
   pub needed-long : length needed ≡ length needed₀
@@ -65,7 +66,7 @@ pub kept-none : (flags : List Bool) → Shown.kept flags [] ≡ []
 kept-none [] = refl
 kept-none (b ∷ flags) = refl
 
-module _ (ts : List Stmt) (kept needed : List Bool) (n : ℕ) (q : n ≡ length ts) where
+module _ (ts : List Stmt) (kept : List Bool) (needed : List ℕ) (n : ℕ) (q : n ≡ length ts) where
   pub walking-start : n ≤ length kept → ((x : ℕ) → inSet needed x ≡ false) → ((x : ℕ) → getD kept x false ≡ false)
       → Walking ts kept needed kept needed n none
   unfolding slice
@@ -97,7 +98,7 @@ reads-first : (x : ℕ) (t : Stmt) (ts : List Stmt) → readsTrace x (t ∷ ts) 
 reads-first x (Assign p y e) ts = refl
 reads-first x (Test k p e) ts = refl
 
-module _ {ts : List Stmt} {kept₀ needed₀ kept needed : List Bool} {k : ℕ} {behind : Kept}
+module _ {ts : List Stmt} {kept₀ : List Bool} {needed₀ : List ℕ} {kept : List Bool} {needed : List ℕ} {k : ℕ} {behind : Kept}
     (w : Walking ts kept₀ needed₀ kept needed k behind) where
   pub few-behind : length ts ≤ 4096 → behind .count ≤ 4096
   few-behind l = omega (arith, w .count, slice-shorter (drop k ts), length-drop k ts)
@@ -107,7 +108,7 @@ module _ {ts : List Stmt} {kept₀ needed₀ kept needed : List Bool} {k : ℕ} 
 
   module _ (h : 0 < k) (t : Stmt) (xs : List Stmt) (here : drop (k - 1) ts ≡ t ∷ xs) (size : ℕ)
       (sized : length (recordBytes stmtBytes t) ≡ size)
-      (b : Body Stmt) (g : b ≡ Good t) {kept′ needed′ : List Bool} {r : Kept}
+      (b : Body Stmt) (g : b ≡ Good t) {kept′ : List Bool} {needed′ : List ℕ} {r : Kept}
       (went : Stepped b size (k - 1) behind kept needed kept′ needed′ r)
       (kept-kept : length kept′ ≡ length kept) (needed-kept : length needed′ ≡ length needed) where
     st : Stepped (Good t) size (k - 1) behind kept needed kept′ needed′ r
@@ -185,7 +186,7 @@ module _ {ts : List Stmt} {kept₀ needed₀ kept needed : List Bool} {k : ℕ} 
             (λ x. ap (λ fs. inSet fs x) m ∙ reads-is x)
             (flag kept′ kept-kept false (ap (λ fs. getD fs (k - 1) false) f ∙ w .clear (k - 1) (omega arith)) (ap (drop k) f))
 
-pub walked : {ts : List Stmt} {kept₀ needed₀ kept needed : List Bool} {k : ℕ} {behind : Kept}
+pub walked : {ts : List Stmt} {kept₀ : List Bool} {needed₀ : List ℕ} {kept : List Bool} {needed : List ℕ} {k : ℕ} {behind : Kept}
     → Walking ts kept₀ needed₀ kept needed k behind → k ≤ 0 → WalkedBack ts kept needed behind
 walked {ts} {kept₀} {needed₀} {kept} {needed} {k} {behind} w h = let v = subst (λ k. Walking ts kept₀ needed₀ kept needed k behind)
     (let e : k ≡ 0 = omega arith in e) w in

@@ -1,10 +1,12 @@
 -- What the code's values mean: its answers as functions of the definitions.
-use Prim.Native.Nat.{ℕ, _+_}
+use Prim.Native.Nat.{ℕ, _+_, _*_, _/_, _%_}
 use mathlib.Core.Path.{_≡_}
 use mathlib.Core.Bool.{Bool, true, false, cond, _||_}
 use mathlib.Core.Option.{Option, none, some}
 use mathlib.Core.List.{List, [], _∷_}
 use lib.ListN.{length, getD, set}
+use lib.Dec.{eqb}
+use Rattle.expr.specs.Word.{bit}
 use Rattle.expr.specs.Token.{Token}
 use Rattle.expr.specs.Eval.{readsToken, reads}
 use Rattle.file.specs.File.{Body, Good, Bad, recordBytes, recordsBytes}
@@ -16,8 +18,13 @@ use Rattle.slice.specs.declared.back.Kept.{Kept}
 
 -- ---- a set of symbols
 
-abbrev pub inSet : List Bool → ℕ → Bool
-inSet set x = getD set x false
+-- symbol x is bit x % 64 of word x / 64
+unfoldable pub inSet : (set : List ℕ) (x : ℕ) → Bool
+inSet set x = eqb (bit (x % 64) (getD set (x / 64) 0)) 1
+
+-- for how many symbols it has room
+unfoldable pub roomIn : (set : List ℕ) → ℕ
+roomIn set = 64 * length set
 
 abbrev pub readsRead : (x : ℕ) → Option Token → Bool
 readsRead x none = false
@@ -46,8 +53,8 @@ assertsIn (Bad r) = false
 -- ---- the walk back
 
 -- the statement k, which is b, of whose bytes its record has `size`
-pub record Stepped (b : Body Stmt) (size k : ℕ) (behind : Kept) (kept : List Bool) (needed : List Bool) (kept′ : List Bool)
-    (needed′ : List Bool) (r : Kept) : Type 0 where
+pub record Stepped (b : Body Stmt) (size k : ℕ) (behind : Kept) (kept : List Bool) (needed : List ℕ) (kept′ : List Bool)
+    (needed′ : List ℕ) (r : Kept) : Type 0 where
   pub asserts : r .asserts ≡ (assertsIn b || behind .asserts)
   pub keeps : (keepIn (behind .asserts) (inSet needed) b ≡ true) → (kept′ ≡ set kept k true) × (r .count ≡ behind .count + 1)
       × (r .size ≡ behind .size + size)
@@ -61,7 +68,7 @@ kept [] ts = []
 kept (b ∷ flags) [] = []
 kept (b ∷ flags) (t ∷ ts) = cond b (t ∷ kept flags ts) (kept flags ts)
 
-pub record WalkedBack (ts : List Stmt) (flags : List Bool) (needed : List Bool) (r : Kept) : Type 0 where
+pub record WalkedBack (ts : List Stmt) (flags : List Bool) (needed : List ℕ) (r : Kept) : Type 0 where
   pub those : kept flags ts ≡ slice ts
   pub count : r .count ≡ length (slice ts)
   pub size : r .size ≡ length (recordsBytes stmtBytes (slice ts))

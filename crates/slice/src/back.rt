@@ -12,7 +12,7 @@ ghost use Rattle.expr.specs.Number.{numberOf};
 ghost use Rattle.file.specs.Shown.{isGood, listed};
 ghost use Rattle.trace.specs.Trace.{readTrace};
 ghost use Rattle.trace.specs.Shown.{symbolRoom, held, Ready};
-ghost use Rattle.slice.specs.Shown.{inSet, keepIn, readsIn, Stepped, WalkedBack};
+ghost use Rattle.slice.specs.Shown.{inSet, roomIn, keepIn, readsIn, Stepped, WalkedBack};
 
 // What is kept of the statements behind: whether an Assert is among them, how many they are, and their bytes.
 pub struct Kept {
@@ -22,8 +22,8 @@ pub struct Kept {
 }
 
 // Whether the statement at a place is kept, where `asserts` says if an Assert follows it.
-fn keeps(trace: &[u8], at: usize, asserts: bool, needed: &[bool]) -> bool
-    requires { ⌜ (at < 65536) × (length (now needed) ≡ symbolRoom) × (isGood (held (drop at (now trace))) ≡ true) ⌝ }
+fn keeps(trace: &[u8], at: usize, asserts: bool, needed: &[u64]) -> bool
+    requires { ⌜ (at < 65536) × (roomIn (now needed) ≡ symbolRoom) × (isGood (held (drop at (now trace))) ≡ true) ⌝ }
     ensures { λ r. ⌜ r ≡ keepIn asserts (inSet (now (needed .entry))) (held (drop at (now (trace .entry)))) ⌝ }
 {
     let kind = trace[at + 2];
@@ -38,8 +38,8 @@ fn keeps(trace: &[u8], at: usize, asserts: bool, needed: &[bool]) -> bool
 }
 
 // The symbols that the statement at a place reads become needed.
-fn mark_record(trace: &[u8], at: usize, needed: &mut [bool])
-    requires { ⌜ (at < 65536) × (length (now needed) ≡ symbolRoom) × (isGood (held (drop at (now trace))) ≡ true) ⌝ }
+fn mark_record(trace: &[u8], at: usize, needed: &mut [u64])
+    requires { ⌜ (at < 65536) × (roomIn (now needed) ≡ symbolRoom) × (isGood (held (drop at (now trace))) ≡ true) ⌝ }
     ensures { λ _. ⌜ ((x : ℕ) → inSet (now (needed .exit)) x
         ≡ (readsIn x (held (drop at (now (trace .entry)))) || inSet (now (needed .entry)) x)) ⌝ }
 {
@@ -63,9 +63,9 @@ fn step_back(
     k: usize,
     behind: Kept,
     kept: &mut [bool],
-    needed: &mut [bool],
+    needed: &mut [u64],
 ) -> Kept
-    requires { ⌜ (at < 65536) × (length (now needed) ≡ symbolRoom) × (k < length (now kept)) × (behind .count ≤ 4096)
+    requires { ⌜ (at < 65536) × (roomIn (now needed) ≡ symbolRoom) × (k < length (now kept)) × (behind .count ≤ 4096)
         × (behind .size < 65536)
         × (isGood (held (drop at (now trace))) ≡ true) ⌝ }
     ensures { λ r. ⌜ Stepped (held (drop at (now (trace .entry)))) (2 + numberOf 2 (drop at (now (trace .entry)))) k behind
@@ -89,9 +89,9 @@ pub fn walk_back(
     offsets: &[u16],
     n: usize,
     kept: &mut [bool],
-    needed: &mut [bool],
+    needed: &mut [u64],
 ) -> Kept
-    requires { ⌜ Ready (now trace) (now offsets) n × (n ≤ length (now kept)) × (length (now needed) ≡ symbolRoom)
+    requires { ⌜ Ready (now trace) (now offsets) n × (n ≤ length (now kept)) × (roomIn (now needed) ≡ symbolRoom)
         × ((x : ℕ) → inSet (now needed) x ≡ false) × ((x : ℕ) → getD (now kept) x false ≡ false) ⌝ }
     ensures { λ r. ⌜ WalkedBack (listed (readTrace (now (trace .entry)))) (now (kept .exit)) (now (needed .exit)) r ⌝ }
 {

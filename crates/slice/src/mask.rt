@@ -2,10 +2,9 @@
 use super::sets;
 ghost use mathlib.Core.Path.{_≡_};
 ghost use Prim.Native.Nat.{_≤_, _<_, _+_, _*_, _^_};
-ghost use lib.ListN.{length};
 ghost use Rattle.expr.specs.Word.{test};
 ghost use Rattle.slice.specs.Mask.{maskOf};
-ghost use Rattle.slice.specs.Shown.{inSet};
+ghost use Rattle.slice.specs.Shown.{inSet, roomIn};
 
 // The mask with bit s, which was clear, as given.
 fn with_bit(mask: u64, s: usize, set: bool) -> u64
@@ -18,8 +17,8 @@ fn with_bit(mask: u64, s: usize, set: bool) -> u64
     mask
 }
 
-pub fn mask_of(needed: &[bool], inputs: usize) -> u64
-    requires { ⌜ (inputs ≤ 64) × (inputs ≤ length (now needed)) ⌝ }
+pub fn mask_of(needed: &[u64], inputs: usize) -> u64
+    requires { ⌜ (inputs ≤ 64) × (inputs ≤ roomIn (now needed)) ⌝ }
     ensures { λ r. ⌜ r ≡ maskOf inputs (inSet (now (needed .entry))) ⌝ }
 {
     let mut s: usize = 0;

@@ -12,11 +12,11 @@ ghost use Rattle.expr.specs.Token.{readToken};
 ghost use Rattle.expr.specs.Expr.{below, parse};
 ghost use Rattle.expr.specs.Eval.{reads};
 ghost use Rattle.expr.specs.Shown.{isWhole, tokensOf, sizeOf, Stands};
-ghost use Rattle.slice.specs.Shown.{inSet, readsRead};
+ghost use Rattle.slice.specs.Shown.{inSet, roomIn, readsRead};
 
 // The symbol of the token at a place, if it is one, becomes needed; the token's bytes.
-fn mark_token(e: &[u8], i: usize, needed: &mut [bool]) -> usize
-    requires { ⌜ (i < length (now e)) × Stands Trace (length (now needed)) (now e) i ⌝ }
+fn mark_token(e: &[u8], i: usize, needed: &mut [u64]) -> usize
+    requires { ⌜ (i < length (now e)) × Stands Trace (roomIn (now needed)) (now e) i ⌝ }
     ensures { λ r. ⌜ (r ≡ sizeOf Trace (readToken Trace (drop i (now (e .entry)))))
         × ((x : ℕ) → inSet (now (needed .exit)) x ≡ (readsRead x (readToken Trace (drop i (now (e .entry)))) || inSet (now (needed .entry))
         x)) ⌝ }
@@ -35,10 +35,10 @@ fn mark_token(e: &[u8], i: usize, needed: &mut [bool]) -> usize
 }
 
 // The symbols of an expression become needed.
-pub fn mark_reads(e: &[u8], needed: &mut [bool])
-    requires { ⌜ isWhole (parse Trace (below (length (now needed))) (now e)) ≡ true ⌝ }
+pub fn mark_reads(e: &[u8], needed: &mut [u64])
+    requires { ⌜ isWhole (parse Trace (below (roomIn (now needed))) (now e)) ≡ true ⌝ }
     ensures { λ _. ⌜ ((x : ℕ) → inSet (now (needed .exit)) x
-        ≡ (reads x (tokensOf (parse Trace (below (length (now (needed .entry)))) (now (e .entry)))) || inSet (now (needed .entry)) x)) ⌝ }
+        ≡ (reads x (tokensOf (parse Trace (below (roomIn (now (needed .entry)))) (now (e .entry)))) || inSet (now (needed .entry)) x)) ⌝ }
 {
     let mut i: usize = 0;
     while i < e.len() {

@@ -45,8 +45,38 @@ pub fn small_rule_0() -> Vec<u8> {
     listing::trace(1, &lines)
 }
 
-/// The limits of traces.
+/// The limits of traces, and of the words that a set of symbols is kept in.
 pub fn limits() -> Vec<KnownSlice> {
+    [limits_of_traces(), limits_of_words()].into_iter().flatten().collect()
+}
+
+/// Of 63 inputs: each of the symbols is assigned, and one is needed, whose Assign alone is kept.
+fn limits_of_words() -> Vec<KnownSlice> {
+    const SYMBOLS: [u16; 7] = [63, 64, 65, 127, 128, 191, 4158];
+    let needed = |symbol: u16| {
+        let keep = |other: u16| if other == symbol { "keep" } else { "drop" };
+        let assigns = SYMBOLS.map(|other| format!("{} {other} assign s{other} s62", keep(other)));
+        let lines: Vec<String> = assigns.into_iter().chain([format!("keep 1 assert s{symbol}")]).collect();
+        let lines: Vec<&str> = lines.iter().map(String::as_str).collect();
+        slice(&format!("of {SYMBOLS:?} only {symbol} is needed"), 63, 1 << 62, &lines)
+    };
+    let mut known = Vec::from(SYMBOLS.map(needed));
+    known.push(slice(
+        "S=64, input 63 and no symbol above it",
+        64,
+        1 << 63,
+        &["drop 1 assign s64 s0", "keep 2 assert s63"],
+    ));
+    known.push(slice(
+        "S=64, symbol 4,159 and not 4,158",
+        64,
+        0,
+        &["drop 1 assign s4158 1", "keep 2 assign s4159 1", "keep 3 assert s4159"],
+    ));
+    in_both_versions(known)
+}
+
+fn limits_of_traces() -> Vec<KnownSlice> {
     let asserts = encoding::trace(0, &vec![assert(1, &CONSTANT_1); 4096]);
     let assumes = encoding::trace(0, &vec![assume(1, &CONSTANT_1); 4096]);
     let bounds = encoding::trace(0, &vec![bound(1, &CONSTANT_1); 4096]);

@@ -17,6 +17,7 @@ use Rattle.trace.specs.TraceLaws.{symbol-room}
 use Rattle.trace.specs.Shown.{Ready}
 use Rattle.trace.proofs.Answers.{offset-small, trace-accepted, right-header, is-ready}
 use Rattle.slice.proofs.Answers.{trace-refuses, size-small, no-room, records-room, slice-written}
+use Rattle.slice.proofs.Marks.{same-room}
 use Rattle.slice.proofs.slice_trace.Statement.{statement}
 use Rattle.slice.proofs.slice_trace.Tie as tie
 
@@ -160,7 +161,8 @@ mask-of-requires c κs =
         few,
         symbol-room,
         c .inputs-of .ensures,
-        walked r .walk-back .kept .1 .1 .1 .1 .0,
+        same-room (walked r .walk-back .last .1 .1 .1 .1 .0) (walked r .before .before .before .before .clear .result)
+            (walked r .walk-back .kept .1 .1 .1 .1 .0),
         walked r .before .before .before .before .clear .ensures .0,
       ),
     )

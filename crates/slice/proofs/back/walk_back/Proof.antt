@@ -1,4 +1,5 @@
 -- The invariant is `Walking`: see there. Each turn goes one statement back.
+use Rattle.slice.proofs.Marks.{same-room}
 use Rattle.slice.proofs.back.walk_back.Statement.{statement}
 use Rattle.slice.proofs.back.walk_back.Tie as tie
 use native.Mathlib.Omega.{arith}
@@ -57,8 +58,7 @@ step-back-requires c κs =
     let w = loop .inv in
     let x = stands (start .pre .0) (loop .k - 1) (omega (arith, loop-test .taken, w .inside, counted (start .pre .0))) in (
       omega (arith, shared-slice-known3 .given (loop .k - 1)),
-      w .needed-long
-          ∙ start .pre .2,
+      same-room _ _ (w .needed-long) ∙ start .pre .2,
       omega (arith, loop-test .taken, w .inside, w .room),
       few-behind w (is-loaded (start .pre .0) .few),
       small-behind w

@@ -1,4 +1,5 @@
 -- Each turn leaves fewer bytes; what is marked and what is left make the whole (`Marking`).
+use Rattle.slice.proofs.Marks.{same-room}
 use Rattle.slice.proofs.reads.mark_reads.Statement.{statement}
 use Rattle.slice.proofs.reads.mark_reads.Tie as tie
 use native.Mathlib.Omega.{arith}
@@ -28,7 +29,8 @@ on c =
 mark-token-requires : tie.Need-mark-token-requires Inv-loop μ-loop
 mark-token-requires c κs = let v = c .before .before .loop .inv in let h = c .before .loop-test .taken in (
   h,
-  subst (λ n. Stands Trace n (c .before .before .before .before .before .args .e .now) (c .before .before .loop .i)) (sym (v .long))
+  subst (λ n. Stands Trace n (c .before .before .before .before .before .args .e .now) (c .before .before .loop .i))
+      (sym (same-room _ _ (v .long)))
       (stands (v .rest) h),
 )
 

@@ -1,15 +1,15 @@
 -- What is read of the token says what it marks.
-use lib.ListN.{length}
 use borrow.Author.Needs.{needs}
 use Rattle.expr.specs.declared.File.the-variants.{Trace}
 use Rattle.expr.proofs.Steps.{stands-size, symbol-below}
+use Rattle.slice.specs.Shown.{roomIn}
 use Rattle.slice.proofs.reads.mark_token.Statement.{statement}
 use Rattle.slice.proofs.reads.mark_token.Tie as tie
 use Rattle.slice.proofs.Reading.{symbol-marks, constant-marks, operator-marks, nothing-marks}
 
 token-here-requires : tie.Need-token-here-requires
 token-here-requires c κs = let s = c .before .before in
-    (s .pre .0, stands-size Trace (length (s .args .needed .now)) (s .args .e .now) (s .args .i) (s .pre .1))
+    (s .pre .0, stands-size Trace (roomIn (s .args .needed .now)) (s .args .e .now) (s .args .i) (s .pre .1))
 
 size-of-requires : tie.Need-size-of-requires
 size-of-requires c κs = search needs
@@ -19,7 +19,7 @@ enum-known-t c = search needs
 
 mark-requires : tie.Need-mark-requires
 mark-requires c κs = let s = c .before .before .before .before .before .before .before .before in
-    symbol-below Trace (length (s .args .needed .now)) (s .args .e .now) (s .args .i) (s .pre .1)
+    symbol-below Trace (roomIn (s .args .needed .now)) (s .args .e .now) (s .args .i) (s .pre .1)
     (c .before .before .before .before .before .token-here .ensures) (c .before .before .t .given .1)
 
 enum-told : tie.Need-enum-told

@@ -1,13 +1,15 @@
 use Rattle.slice.proofs.sets.clear.Statement.{statement}
 use Rattle.slice.proofs.sets.clear.Tie as tie
-use mathlib.Core.Bool.{Bool, false}
+use Prim.Native.Nat.{ℕ, _*_}
+use mathlib.Core.Path.{ap}
 use lib.ListN.{length-replicate}
 use Rattle.trace.specs.Shown.{symbolRoom}
-use Rattle.file.specs.FileLaws.{same-everywhere}
+use Rattle.slice.specs.Shown.{roomIn}
+use Rattle.slice.proofs.Marks.{in-clear}
 
 returns : tie.Need-returns
-unfolding symbolRoom
-returns c = (length-replicate {A = Bool} symbolRoom false, same-everywhere symbolRoom false)
+unfolding symbolRoom roomIn
+returns c = (ap (λ n. 64 * n) (length-replicate {A = ℕ} 65 0), in-clear 65)
 
 pub clear-spec : {M : Type 1} → statement M
 clear-spec = tie.close (tie.spec returns)
