@@ -52,7 +52,7 @@ pub record Promised : Type 0 where
   pub script-room : (t : List ℕ) (room : ℕ) → All Byte t → 4000000 ≤ room → (scriptAnswer t room) .reply ≡ 10 → ⊥
   -- what a solver answers to the script of a trace is whether some inputs make the trace unsafe
   pub posed : (t : List ℕ) (room : ℕ) → All Byte t → (scriptAnswer t room) .reply ≡ 0 → Posed t
-  -- and what a solver answers to the script of that trace, or of its slice, is whether the rule fails within the bound
+  -- and what it answers to the script of a written trace, or of its slice, is whether the rule fails within the bound
   pub solver : (b : List ℕ) (K room : ℕ) → All Byte b → (traceAnswer b K room) .reply ≡ 0 → Solver b K ((traceAnswer b K room) .bytes)
   -- request 2026-13: a higher bound finds every violation that a lower one finds, and changes no run that the lower one does not cut
   pub runs-raised : (b : List ℕ) (K L : ℕ) → All Byte b → K ≤ L → L ≤ 255 → RunsRaised b K L

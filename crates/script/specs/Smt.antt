@@ -1,6 +1,6 @@
 -- SMT-LIB 2.6: the part of its language that a script of ours uses, and what the standard says it means: the theory FixedSizeBitVectors and
 -- the logic QF_BV, which abbreviates bvsub, bvxor, bvule and bvslt. A bit vector of width w is the number that its bits spell, the
--- standard's bv2nat. Nothing here is about our words: that the operators are ours is a law (`SmtLaws`), and one of them is not.
+-- standard's bv2nat. Nothing here is about our words: that the operators are ours is a law (`SmtLaws`).
 use Prim.Native.Nat.{ℕ, _+_, _-_, _*_, _/_, _%_, _^_}
 use mathlib.Core.Bool.{Bool, true, false, cond, not, _&&_, _||_}
 use mathlib.Core.List.{List, [], _∷_}
