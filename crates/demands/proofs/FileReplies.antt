@@ -1,8 +1,8 @@
 -- A file, header and record after record: it is accepted where none of its rows holds, and refused with the first row's number and offset.
-use Prim.Native.Nat.{ℕ, zero, suc, _+_, _*_, _≤_, _<_}
+use Prim.Native.Nat.{ℕ, zero, suc, _+_, _-_, _*_, _≤_, _<_}
 use native.Mathlib.Omega.{arith}
 use native.Mathlib.Decide.{decLt}
-use mathlib.Core.Path.{_≡_, refl, sym, ap, _∙_, subst}
+use mathlib.Core.Path.{_≡_, refl, sym, ap, ap₂, _∙_, subst}
 use mathlib.Core.Bool.{Bool, true, false, cond, _&&_}
 use mathlib.Core.List.{List}
 use lib.ListN.{length, drop, length-drop}
@@ -10,23 +10,24 @@ use lib.Dec.{eqb, leb}
 use borrow.Author.Tests.{eqb-true, eqb-false, leb-true, leb-false, le-leb}
 use Rattle.expr.specs.declared.File.{File}
 use Rattle.expr.specs.declared.File.the-variants.{Table, Trace}
-use Rattle.expr.specs.Lists.{All, and-both, both-and}
-use Rattle.expr.specs.Number.{Byte}
+use Rattle.expr.specs.Lists.{and-both, both-and}
 use Rattle.file.specs.File.{Head, inputsLimit, headerVersion, headerSize, headerTotal, headerInputs, headerCount, headOf, headerReply, Body}
-use Rattle.file.specs.File.{Good, Records, Read, Stop, Input, Accepted, Refused, recordOf}
+use Rattle.file.specs.File.{Refusal, AtRecord, AtToken, Good, Bad, frame, Records, Read, Stop, Input, Accepted, Refused, recordOf}
 use Rattle.file.specs.File.{before, records, finish, readFile}
+use Rattle.file.specs.Shown.{faultAt}
 use Rattle.file.specs.FileLaws.{records-good, records-bad, records-end, records-spare, header-is, file-refused, file-read}
 use Rattle.table.specs.Table.{instr, readTable}
 use Rattle.trace.specs.Trace.{atFirst, see, stmt, readTrace}
-use Rattle.demands.specs.Replies.{recordAt, known, limit, Call, fileOf, bytesOf, Framing, Ruling, Wording, Row, Short, Version}
-use Rattle.demands.specs.Replies.{Total, Limits, Frame, Rule, Expression, Spare, number, offset, When, rank, FirstRow}
+use Rattle.demands.specs.Replies.{recordAt, lengthAt, known, limit, Call, fileOf, bytesOf, Framing, Ruling, Wording, Row, Short}
+use Rattle.demands.specs.Replies.{Version}
+use Rattle.demands.specs.Replies.{Total, Limits, Frame, Rule, Expression, Spare, number, When, Points, rank, FirstRow}
 use Rattle.demands.proofs.RowOrder.{Clear, clear-past}
 use Rattle.demands.proofs.RecordReplies.{Decided, is-good, is-framing, is-ruling, is-wording, framing-inside, table-decided, Knows}
 use Rattle.demands.proofs.RecordReplies.{knows-start, trace-decided, knows-next}
 
 -- a call's first row has this number and offset
 abbrev pub RefusedBy : Call → (reply at : ℕ) → Type 0
-RefusedBy c reply at = (row : Row) × (number row ≡ reply) × (offset (bytesOf c) row ≡ at) × FirstRow c row
+RefusedBy c reply at = (row : Row) × (number row ≡ reply) × Points c row at × FirstRow c row
 
 -- a call's file is refused by the first row, or none of the rows 1 to 7 holds
 abbrev pub FileReply : {A : Type 0} → Call → Input A → Type 0
@@ -37,7 +38,7 @@ FileReply c (Refused reply at) = RefusedBy c reply at
 
 data HeaderReply (c : Call) : ℕ → Type 0 where
   header-passed : Clear c 4 → HeaderReply c 0
-  header-refused : (row : Row) → FirstRow c row → offset (bytesOf c) row ≡ 0 → (number row ≡ 0 → ⊥) → HeaderReply c (number row)
+  header-refused : (row : Row) → FirstRow c row → Points c row 0 → (number row ≡ 0 → ⊥) → HeaderReply c (number row)
 
 module _ (c : Call) where
   abbrev s : List ℕ
@@ -116,16 +117,21 @@ module _ {A St : Type 0} (c : Call) (one : St → List ℕ → Body A) (next : S
   reply-before a (Read xs) h = h
   reply-before a (Stop r bs) h = h
 
-  -- a refusal with the bytes from record k on
-  reply-stop : (k : ℕ) (row : Row) → at k ≤ length (s c) → offset (s c) row ≡ at k → When c row → Clear c (rank (n c) row)
-      → Reply (Stop (number row) (drop (at k) (s c)))
-  reply-stop k row h e w clear = (row, refl, omega (arith, length-drop (at k) (s c)), first c row clear w)
+  -- a refusal with the bytes from where the row points on
+  reply-stop : (row : Row) (o : ℕ) → o ≤ length (s c) → Points c row o → When c row → Clear c (rank (n c) row)
+      → Reply (Stop (number row) (drop o (s c)))
+  reply-stop row o h e w clear = (
+    row,
+    refl,
+    subst (Points c row) (let z : o ≡ length (s c) - length (drop o (s c)) = omega (arith, length-drop o (s c)) in z) e,
+    first c row clear w,
+  )
 
   nothing-left : (k : ℕ) (σ : St) → k ≡ n c → at k ≤ length (s c) → Clear c (4 + 3 * k) → Reply (records one next 0 σ (drop (at k) (s c)))
   nothing-left k σ e l clear =
       elim (decLt (at k) (length (s c))) [
         | yes h ↦ subst Reply (sym (records-spare one next (s c) (at k) σ h))
-            (reply-stop k Spare l (ap at (sym e)) (subst (λ m. at m < length (s c)) e h) here)
+            (reply-stop Spare (at k) l (ap at e) (subst (λ m. at m < length (s c)) e h) here)
         | no h ↦
             subst Reply (sym (records-end one next (s c) (at k) σ (omega arith)))
             (clear-past c Spare (5 + 3 * n c) tt (omega arith) here (λ w. h (subst (λ m. at m < length (s c)) (sym e) w)))
@@ -142,20 +148,27 @@ module _ {A St : Type 0} (c : Call) (one : St → List ℕ → Body A) (next : S
     no-rule : Clear c (5 + 3 * k) → (Ruling (fileOf c) (s c) k (at k) → ⊥) → Clear c (6 + 3 * k)
     no-rule before h = clear-past c (Rule k) (6 + 3 * k) more (omega arith) before (λ w. h (w .1))
 
-    no-wording : Clear c (6 + 3 * k) → (Wording (fileOf c) (s c) k (at k) → ⊥) → Clear c (4 + 3 * suc k)
-    no-wording before h = clear-past c (Expression k) (4 + 3 * suc k) more (omega arith) before (λ w. h (w .1))
+    no-wording : Clear c (6 + 3 * k) → ((o : ℕ) → Wording (fileOf c) (s c) k (at k) o → ⊥) → Clear c (4 + 3 * suc k)
+    no-wording before h = clear-past c (Expression k) (4 + 3 * suc k) more (omega arith) before (λ w. h (w .1 .0) (w .1 .1))
+
+    -- the bytes from a refused record on, or from a token of it
+    stopped : (r : Refusal) → recordOf (one σ) (drop (at k) (s c)) ≡ Bad r → (row : Row)
+        → number row ≡ (faultAt (frame (drop (at k) (s c))) r) .reply → (o : ℕ) → o ≡ at k + (faultAt (frame (drop (at k) (s c))) r) .from
+        → o ≤ length (s c) → Points c row o → When c row → Clear c (rank (n c) row) → Reply (records one next (suc j) σ (drop (at k) (s c)))
+    stopped r e row m o p inside points holds before =
+        subst Reply (ap₂ {C = Records A} (λ m o. Stop m (drop o (s c))) m p ∙ sym (records-bad one next (s c) (at k) j σ r e))
+        (reply-stop row o inside points holds before)
 
     record-reply : (x : Body A) → recordOf (one σ) (drop (at k) (s c)) ≡ x → Decided (fileOf c) (s c) k (at k) x
         → ((a : A) → recordOf (one σ) (drop (at k) (s c)) ≡ Good a → at (suc k) ≤ length (s c) → Clear c (4 + 3 * suc k)
         → Reply (records one next j (next σ a) (drop (at (suc k)) (s c))))
         → Reply (records one next (suc j) σ (drop (at k) (s c)))
-    record-reply x e (is-framing f) rest = subst Reply (sym (records-bad one next (s c) (at k) j σ 5 e))
-        (reply-stop k (Frame k) l refl (more, f) clear)
-    record-reply x e (is-ruling f r) rest = subst Reply (sym (records-bad one next (s c) (at k) j σ 6 e))
-        (reply-stop k (Rule k) l refl (more, r) (no-frame f))
-    record-reply x e (is-wording f r w) rest =
-        subst Reply (sym (records-bad one next (s c) (at k) j σ 7 e))
-        (reply-stop k (Expression k) l refl (more, w) (no-rule (no-frame f) r))
+    record-reply x e (is-framing f) rest = stopped (AtRecord 5) e (Frame k) refl (at k) (omega arith) l refl (more, f) clear
+    record-reply x e (is-ruling f r) rest = stopped (AtRecord 6) e (Rule k) refl (at k) (omega arith) l refl (more, r) (no-frame f)
+    record-reply x e (is-wording left f r short w) rest =
+        let inside = framing-inside (fileOf c) (s c) (at k) f in
+        stopped (AtToken left) e (Expression k) refl (at k + (2 + lengthAt (s c) (at k)) - left) (omega (arith, inside .1))
+        (omega (arith, inside .0)) w (more, (at k + (2 + lengthAt (s c) (at k)) - left, w)) (no-rule (no-frame f) r)
     record-reply x e (is-good a f r w) rest =
         let inside = framing-inside (fileOf c) (s c) (at k) f in
         subst Reply
@@ -201,15 +214,15 @@ module _ {A St : Type 0} (c : Call) (F : File) (is : fileOf c ≡ F) (one : (hea
           (decided k σ i))
           kept (n c) 0 (start (headOf (s c))) started (omega arith) (header-is (known F) (limit F) (s c) e .long) clear)
 
-pub table-reply : (c : Call) → fileOf c ≡ Table → All Byte (bytesOf c) → FileReply c (readTable (bytesOf c))
+pub table-reply : (c : Call) → fileOf c ≡ Table → FileReply c (readTable (bytesOf c))
 unfolding readTable
-table-reply c is o =
+table-reply c is =
     file-reply {St = Unit {0}} c Table is (λ head n u. instr (head .inputs) n) (λ u a. u) (λ head. tt) (λ k u. Unit {0}) tt
-    (λ k u i. table-decided (bytesOf c) o k (recordAt (bytesOf c) k)) (λ k u i a g. tt)
+    (λ k u i. table-decided (bytesOf c) k (recordAt (bytesOf c) k)) (λ k u i a g. tt)
 
-pub trace-reply : (c : Call) → fileOf c ≡ Trace → All Byte (bytesOf c) → FileReply c (readTrace (bytesOf c))
+pub trace-reply : (c : Call) → fileOf c ≡ Trace → FileReply c (readTrace (bytesOf c))
 unfolding readTrace
-trace-reply c is o =
+trace-reply c is =
     file-reply c Trace is (λ head n. stmt (head .inputs + 4096)) see atFirst (Knows (bytesOf c))
-    (knows-start (bytesOf c)) (λ k σ w. trace-decided (bytesOf c) o k (recordAt (bytesOf c) k) σ w)
+    (knows-start (bytesOf c)) (λ k σ w. trace-decided (bytesOf c) k (recordAt (bytesOf c) k) σ w)
     (λ k σ w a g. knows-next (bytesOf c) k σ w (headerInputs (bytesOf c) + 4096) a g)

@@ -2,6 +2,7 @@
 pub mod Promised
 -- Demand 1, row by row.
 pub mod ValuationLaws
+pub mod ExpressionProof
 pub mod RowOrder
 pub mod RecordReplies
 pub mod FileReplies

@@ -2,6 +2,7 @@
 use Rattle.script.specs.RoomLaws as Room
 use Rattle.demands.specs.Promised.{Promised}
 use Rattle.demands.proofs.RepliesProof.{run-demand1, judge-demand1, write-trace-demand1, slice-trace-demand1, write-script-demand1}
+use Rattle.demands.proofs.ExpressionProof as Wording
 use Rattle.demands.proofs.RefusalsProof as Rest
 use Rattle.demands.proofs.Demand3Proof as Third
 use Rattle.demands.proofs.SolverProof as Asked
@@ -14,6 +15,9 @@ promised = record {
   trace-replies = write-trace-demand1;
   slice-replies = slice-trace-demand1;
   script-replies = write-script-demand1;
+  keeps-or-breaks = Wording.decides;
+  keeps-not-breaks = Wording.unbroken;
+  breaks-once = Wording.breaks-once;
   run-rest = Rest.run-rest;
   judge-rest = Rest.judge-rest;
   trace-rest = Rest.write-trace-rest;

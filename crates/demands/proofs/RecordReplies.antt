@@ -13,13 +13,13 @@ use lib.Dec.{eqb, leb, ltb}
 use borrow.Author.Tests.{eqb-true, eqb-false, eq-eqb, ne-eqb, leb-true, leb-false, ltb-true, ltb-false}
 use Rattle.expr.specs.declared.File.{File}
 use Rattle.expr.specs.declared.File.the-variants.{Table, Trace}
-use Rattle.expr.specs.Lists.{All, all-drop, all-take, and-both, or-false}
-use Rattle.expr.specs.Number.{Byte, numberOf}
+use Rattle.expr.specs.Lists.{and-both, or-false}
+use Rattle.expr.specs.Number.{numberOf}
 use Rattle.expr.specs.Token.{Token}
 use Rattle.expr.specs.Expr.{below, Parsed, Whole, Breaks, parse}
-use Rattle.expr.specs.ExprLaws.{parse-accepted, parse-written}
 use Rattle.file.specs.Outcome.{Kind, Assume, Assert, Bound}
-use Rattle.file.specs.File.{headerVersion, headerInputs, headerCount, headOf, Body, Good, Bad, field, rule, holding, frame, recordOf}
+use Rattle.file.specs.File.{headerVersion, headerInputs, headerCount, headOf, AtRecord, AtToken, Body, Good, Bad, field, rule, holding}
+use Rattle.file.specs.File.{frame, recordOf}
 use Rattle.file.specs.FileLaws.{frame-there, record-framed, record-unframed, record-good, field-there, field-missing}
 use Rattle.file.specs.RecordLaws as RecordLaws
 use Rattle.table.specs.Table as TableSpec
@@ -30,17 +30,20 @@ use Rattle.trace.specs.Trace.{Stmt, Seen, atFirst, see, stmt, tellsBound, kindC
 use Rattle.trace.specs.Shown.{knownTest}
 use Rattle.trace.specs.TraceLaws.{no-assign}
 use Rattle.trace.specs.TraceLaws as TraceLaws
-use Rattle.demands.specs.Replies.{recordAt, lengthAt, kindAt, numberAt, exprAt, fields, fieldsAt, assignedBefore, mayRead, IsExpr}
+use Rattle.demands.specs.Replies.{recordAt, lengthAt, kindAt, numberAt, exprAt, fields, fieldsAt, assignedBefore, mayRead}
 use Rattle.demands.specs.Replies.{Framing, length-missing, passes-the-end, length-zero, unknown-kind, fields-missing, Ruling}
 use Rattle.demands.specs.Replies.{symbol-not-below, target-past-the-end, symbol-of-an-input, symbol-too-high, symbol-not-greater}
-use Rattle.demands.specs.Replies.{Wording, no-expression}
+use Rattle.demands.specs.Replies.{Wording, breaks}
+use Rattle.demands.specs.Expression.{BreaksAt}
+use Rattle.demands.proofs.ExpressionProof.{breaks-once, reading-whole, reading-breaks}
 
 -- what a record is read as, by its rows
 pub data Decided {A : Type 0} (F : File) (s : List ℕ) (k at : ℕ) : Body A → Type 0 where
-  is-good : (a : A) → (Framing F s at → ⊥) → (Ruling F s k at → ⊥) → (Wording F s k at → ⊥) → Decided F s k at (Good a)
-  is-framing : Framing F s at → Decided F s k at (Bad 5)
-  is-ruling : (Framing F s at → ⊥) → Ruling F s k at → Decided F s k at (Bad 6)
-  is-wording : (Framing F s at → ⊥) → (Ruling F s k at → ⊥) → Wording F s k at → Decided F s k at (Bad 7)
+  is-good : (a : A) → (Framing F s at → ⊥) → (Ruling F s k at → ⊥) → ((o : ℕ) → Wording F s k at o → ⊥) → Decided F s k at (Good a)
+  is-framing : Framing F s at → Decided F s k at (Bad (AtRecord 5))
+  is-ruling : (Framing F s at → ⊥) → Ruling F s k at → Decided F s k at (Bad (AtRecord 6))
+  is-wording : (left : ℕ) → (Framing F s at → ⊥) → (Ruling F s k at → ⊥) → left ≤ lengthAt s at
+      → Wording F s k at (at + (2 + lengthAt s at) - left) → Decided F s k at (Bad (AtToken left))
 
 -- ---- frames
 
@@ -102,23 +105,11 @@ module _ (s : List ℕ) (at : ℕ) (there : frame (drop at s) ≡ 0 → ⊥) whe
       RecordLaws.body-part anything s at tt cut-out m
       ∙ ap (λ l. take l (drop (at + (2 + m)) s)) (let e : 2 + lengthAt s at - (2 + m) ≡ lengthAt s at - m = omega arith in e)
 
--- ---- expressions
-
-module _ (F : File) (may : ℕ → Bool) (bs : List ℕ) where
-  whole-is-expr : (e : List Token) → All Byte bs → parse F may bs ≡ Whole e → IsExpr F may bs
-  whole-is-expr e o h = let a = parse-accepted F may bs e o h in
-      record { tokens = e; written = a .bytes; operands = a .holds; right = a .ok }
-
-  expr-unbroken : (rest : List ℕ) → parse F may bs ≡ Breaks rest → IsExpr F may bs → ⊥
-  expr-unbroken rest h x =
-      let e = sym h ∙ sym (ap (parse F may) (x .written)) ∙ parse-written F may 0 (x .tokens) (x .right) (x .operands) in
-      let z : _≡_ {A = ℕ} 0 1 = cc in omega arith
-
 -- ---- a record by its fields
 
 -- a field is missing, or it is there
 field-cases : {A : Type 0} (P : Body A → Type 0) (w : ℕ) (bs : List ℕ) (f : ℕ → List ℕ → Body A)
-    → (length bs < w → P (Bad 5)) → (w ≤ length bs → P (f (numberOf w bs) (drop w bs))) → P (field w bs f)
+    → (length bs < w → P (Bad (AtRecord 5))) → (w ≤ length bs → P (f (numberOf w bs) (drop w bs))) → P (field w bs f)
 field-cases P w bs f short long =
     elim (decLt (length bs) w) [
       | yes h ↦ subst P (sym (field-missing w bs f h)) (short h)
@@ -128,7 +119,7 @@ field-cases P w bs f short long =
 fields-known : (F : File) (s : List ℕ) (at v : ℕ) → eqb (kindAt s at) v ≡ true → fieldsAt F s at ≡ fields F (headerVersion s) v
 fields-known F s at v e = ap (fields F (headerVersion s)) (eqb-true (kindAt s at) v e)
 
-module _ (F : File) (s : List ℕ) (o : All Byte s) (k at : ℕ) (there : frame (drop at s) ≡ 0 → ⊥) where
+module _ (F : File) (s : List ℕ) (k at : ℕ) (there : frame (drop at s) ≡ 0 → ⊥) where
   -- with m bytes of kind and fields, all of them there
   module _ (m : ℕ) (e : fieldsAt F s at ≡ some m) (h : m ≤ lengthAt s at) where
     no-framing : Framing F s at → ⊥
@@ -140,25 +131,41 @@ module _ (F : File) (s : List ℕ) (o : All Byte s) (k at : ℕ) (there : frame 
 
     worded : {A : Type 0} (f : List Token → A) → (Ruling F s k at → ⊥)
         → Decided F s k at (holding f (parse F (mayRead F s k) (exprAt s at m)))
-    worded f r = go (parse F (mayRead F s k) (exprAt s at m)) refl
+    worded {A} f r = go (parse F (mayRead F s k) (exprAt s at m)) refl
       where
-        bytes : All Byte (exprAt s at m)
-        bytes = all-take Byte (lengthAt s at - m) (drop (at + (2 + m)) s) (all-drop Byte (at + (2 + m)) s o)
-
-        right : (e : List Token) → parse F (mayRead F s k) (exprAt s at m) ≡ Whole e → Wording F s k at → ⊥
-        right t q (no-expression n l p) =
+        right : (e : List Token) → parse F (mayRead F s k) (exprAt s at m) ≡ Whole e → (o : ℕ) → Wording F s k at o → ⊥
+        right t q p (breaks n i l b z) =
             let u = sym e ∙ l in
-            let z : m ≡ n = cc in
-            p (subst (λ i. IsExpr F (mayRead F s k) (exprAt s at i)) z (whole-is-expr F (mayRead F s k) (exprAt s at m) t bytes q))
+            let z : n ≡ m = cc in
+            reading-whole F (mayRead F s k) (exprAt s at m) t q i (subst (λ n. BreaksAt F (mayRead F s k) (exprAt s at n) i) z b)
+
+        wrong : (rest : List ℕ) → parse F (mayRead F s k) (exprAt s at m) ≡ Breaks rest
+            → Decided {A = A} F s k at (Bad (AtToken (length rest)))
+        wrong rest q =
+            let b = reading-breaks F (mayRead F s k) (exprAt s at m) rest q in
+            let i = b .0 in
+            let left : length rest ≡ length (exprAt s at m) - i = ap length (b .2) ∙ length-drop i (exprAt s at m) in
+            let long : length (exprAt s at m) ≡ lengthAt s at - m = sym (ap length (expr-is s at there m)) ∙ length-drop m (bodyAt s at)
+            ∙ ap (λ l. l - m) (length-is s at there) in
+            is-wording (length rest) no-framing r (omega arith) (breaks m i e (b .1) (omega (arith, b .3)))
 
         go : (p : Parsed) → parse F (mayRead F s k) (exprAt s at m) ≡ p → Decided F s k at (holding f p)
         go (Whole t) q = is-good (f t) no-framing r (right t q)
-        go (Breaks rest) q = is-wording no-framing r (no-expression m e (expr-unbroken F (mayRead F s k) (exprAt s at m) rest q))
+        go (Breaks rest) q = wrong rest q
 
     ruled : {A : Type 0} (f : List Token → A) (b : Bool) → (b ≡ true → Ruling F s k at → ⊥) → (b ≡ false → Ruling F s k at)
         → Decided F s k at (rule b (holding f (parse F (mayRead F s k) (exprAt s at m))))
     ruled f true r q = worded f (r refl)
     ruled f false r q = is-ruling no-framing (q refl)
+
+-- a record's expression breaks its rules at one byte
+pub wording-once : (F : File) (s : List ℕ) (k at o p : ℕ) → Wording F s k at o → Wording F s k at p → o ≡ p
+wording-once F s k at o p (breaks m i e b z) (breaks n j f c y) =
+    let u = sym f ∙ e in
+    let q : n ≡ m = cc in
+    let here = subst (λ n. BreaksAt F (mayRead F s k) (exprAt s at n) j) q c in
+    let same : i ≡ j = breaks-once F (mayRead F s k) (exprAt s at m) i j b here in
+    omega arith
 
 -- a record that is not there, or that is read by what is in it
 decided-by-frame : {A : Type 0} (F : File) (s : List ℕ) (k at : ℕ) (one : List ℕ → Body A)
@@ -175,7 +182,7 @@ decided-by-frame F s k at one h = go (eqb (frame (drop at s)) 0) refl
 
 -- ---- a record of a table
 
-module _ (s : List ℕ) (o : All Byte s) (k at : ℕ) where
+module _ (s : List ℕ) (k at : ℕ) where
   abbrev TableRow : Body Instr → Type 0
   TableRow x = Decided Table s k at x
 
@@ -214,7 +221,7 @@ module _ (s : List ℕ) (o : All Byte s) (k at : ℕ) where
         let q : y ≡ numberAt s at 1 1 = number-is s at there 1 1 h in
         subst (λ bs. TableRow (rule (ltb y S) (holding (TableSpec.Assign y) (parse Table (below S) bs))))
         (sym (drop-drop 1 1 instrBytes ∙ expr-is s at there 2))
-        (ruled Table s o k at there 2 (fields-known Table s at 1 e) h (TableSpec.Assign y) (ltb y S) (symbol-ruled y q kind)
+        (ruled Table s k at there 2 (fields-known Table s at 1 e) h (TableSpec.Assign y) (ltb y S) (symbol-ruled y q kind)
         (λ u. symbol-not-below kind (omega (arith, q, ltb-false y S u))))))
 
     instr-goto-decided : eqb (kindAt s at) 4 ≡ true → Decided Table s k at (instr S n instrBytes)
@@ -229,7 +236,7 @@ module _ (s : List ℕ) (o : All Byte s) (k at : ℕ) where
         let q : y ≡ numberAt s at 1 2 = number-is s at there 1 2 h in
         subst (λ bs. TableRow (rule (leb y n) (holding (TableSpec.IfThenGoto y) (parse Table (below S) bs))))
         (sym (drop-drop 2 1 instrBytes ∙ expr-is s at there 3))
-        (ruled Table s o k at there 3 (fields-known Table s at 4 e) h (TableSpec.IfThenGoto y) (leb y n) (target-ruled y q kind)
+        (ruled Table s k at there 3 (fields-known Table s at 4 e) h (TableSpec.IfThenGoto y) (leb y n) (target-ruled y q kind)
         (λ u. target-past-the-end kind (omega (arith, q, leb-false y n u))))))
 
     instr-test-decided : (v : ℕ) (t : Kind) → eqb (kindAt s at) v ≡ true → fields Table (headerVersion s) v ≡ some 1 → (v ≡ 1 → ⊥)
@@ -238,7 +245,7 @@ module _ (s : List ℕ) (o : All Byte s) (k at : ℕ) where
     instr-test-decided v t e f p r q =
         let kind : kindAt s at ≡ v = eqb-true (kindAt s at) v e in
         subst TableRow (sym (q ∙ ap (TableSpec.test S t) (expr-is s at there 1)))
-        (worded Table s o k at there 1 (fields-known Table s at v e ∙ f) (omega (arith, rest-length s at there)) (TableSpec.Test t)
+        (worded Table s k at there 1 (fields-known Table s at v e ∙ f) (omega (arith, rest-length s at there)) (TableSpec.Test t)
         (instr-unruled (λ u. p (sym kind ∙ u)) (λ u. r (sym kind ∙ u))))
 
     instr-decided : Decided Table s k at (instr S n instrBytes)
@@ -288,7 +295,7 @@ knows-start s = record {
 
 -- ---- a record of a trace
 
-module _ (s : List ℕ) (o : All Byte s) (k at : ℕ) (σ : Seen) (w : Knows s k σ) where
+module _ (s : List ℕ) (k at : ℕ) (σ : Seen) (w : Knows s k σ) where
   abbrev TraceRow : Body Stmt → Type 0
   TraceRow x = Decided Trace s k at x
 
@@ -346,7 +353,7 @@ module _ (s : List ℕ) (o : All Byte s) (k at : ℕ) (σ : Seen) (w : Knows s k
         let q : y ≡ numberAt s at 3 2 = ap (numberOf 2) (drop-drop 2 1 stmtBytes) ∙ number-is s at there 3 2 h in
         subst (λ x. TraceRow (rule (leb (σ .least) y && ltb y top) (holding (TraceSpec.Assign p y) x)))
         (sym (parse-is 5 (drop 2 r) (ap (drop 2) (drop-drop 2 1 stmtBytes) ∙ drop-drop 2 3 stmtBytes)))
-        (ruled Trace s o k at there 5 (fields-known Trace s at 1 e) h (TraceSpec.Assign p y) (leb (σ .least) y && ltb y top)
+        (ruled Trace s k at there 5 (fields-known Trace s at 1 e) h (TraceSpec.Assign p y) (leb (σ .least) y && ltb y top)
         (stmt-ruled y q) (stmt-against y q kind)))))
 
     stmt-test-decided : (v : ℕ) (t : Kind) → eqb (kindAt s at) v ≡ true → fields Trace (headerVersion s) v ≡ some 3 → (v ≡ 1 → ⊥)
@@ -359,7 +366,7 @@ module _ (s : List ℕ) (o : All Byte s) (k at : ℕ) (σ : Seen) (w : Knows s k
         (λ l. is-framing (fields-missing 3 (fields-known Trace s at v e ∙ f) (omega (arith, rest-length s at there))))
         (λ l.
         subst (λ x. TraceRow (holding (TraceSpec.Test t p) x)) (sym (parse-is 3 (drop 2 (drop 1 stmtBytes)) (drop-drop 2 1 stmtBytes)))
-        (worded Trace s o k at there 3 (fields-known Trace s at v e ∙ f) (omega (arith, rest-length s at there)) (TraceSpec.Test t p)
+        (worded Trace s k at there 3 (fields-known Trace s at v e ∙ f) (omega (arith, rest-length s at there)) (TraceSpec.Test t p)
         (stmt-unruled (λ u. r (sym kind ∙ u))))))
 
     stmt-known : (v : ℕ) (t : Kind) → v ≡ kindCode t → TraceLaws.Told (σ .bounds) t → eqb (kindAt s at) v ≡ true

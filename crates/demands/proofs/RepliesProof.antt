@@ -13,15 +13,14 @@
 -- 4. What a call tests after its file was accepted are its own rows, in their order, with S the header's and the list that was read.
 use Prim.Native.Nat.{ℕ, _+_, _*_, _<_}
 use native.Mathlib.Omega.{arith}
-use mathlib.Core.Path.{_≡_, refl, sym, ap, ap₂, _∙_, subst⁻¹}
+use mathlib.Core.Path.{_≡_, refl, sym, ap, ap₂, _∙_, subst, subst⁻¹}
 use mathlib.Core.Logic.{_↔_}
 use mathlib.Core.Bool.{Bool, true, false, cond, _&&_}
 use mathlib.Core.List.{List}
 use lib.ListN.{length}
 use lib.Dec.{eqb, leb}
 use borrow.Author.Tests.{eqb-true, eqb-false, leb-true, leb-false, le-leb}
-use Rattle.expr.specs.Lists.{All, and-both, both-and}
-use Rattle.expr.specs.Number.{Byte}
+use Rattle.expr.specs.Lists.{and-both, both-and}
 use Rattle.file.specs.Outcome.{Outcome}
 use Rattle.file.specs.Outcome as Kinds
 use Rattle.file.specs.File.{Head, headerInputs, headerCount, Input, Accepted, Refused}
@@ -48,10 +47,12 @@ use Rattle.script.specs.Answer.{scriptAnswer}
 use Rattle.expr.specs.Eval.{envOf}
 use Rattle.demands.specs.Valuation.{Handed, ranWith, judgedWith}
 use Rattle.demands.proofs.ValuationLaws.{wordsIn, words-length, ran-words, judged-words}
-use Rattle.demands.specs.Replies.{Call, Run, Judge, WriteTrace, SliceTrace, WriteScript, bytesOf, result, When, Demand1}
+use Rattle.demands.specs.Replies.{recordAt, Call, Run, Judge, WriteTrace, SliceTrace, WriteScript, fileOf, bytesOf, result, When}
+use Rattle.demands.specs.Replies.{Demand1}
 use Rattle.demands.specs.Replies.{Row, Short, Version, Total, Limits, Frame, Rule, Expression, Spare, Bound, Size, Room, Valuation}
-use Rattle.demands.specs.Replies.{number, offset, rank}
+use Rattle.demands.specs.Replies.{number, Points, rank}
 use Rattle.demands.proofs.RowOrder.{first-same, Clear, clear-past, clear-all}
+use Rattle.demands.proofs.RecordReplies.{wording-once}
 use Rattle.demands.proofs.FileReplies.{RefusedBy, FileReply, table-reply, trace-reply}
 
 -- ---- a first row's number and offset are the answer
@@ -75,6 +76,21 @@ number-positive Size = omega arith
 number-positive Room = omega arith
 number-positive Valuation = omega arith
 
+-- a row points at one byte
+points-once : (c : Call) (row : Row) (o p : ℕ) → Points c row o → Points c row p → o ≡ p
+points-once c Short o p h k = h ∙ sym k
+points-once c Version o p h k = h ∙ sym k
+points-once c Total o p h k = h ∙ sym k
+points-once c Limits o p h k = h ∙ sym k
+points-once c (Frame r) o p h k = h ∙ sym k
+points-once c (Rule r) o p h k = h ∙ sym k
+points-once c (Expression r) o p h k = wording-once (fileOf c) (bytesOf c) r (recordAt (bytesOf c) r) o p h k
+points-once c Spare o p h k = h ∙ sym k
+points-once c Bound o p h k = h ∙ sym k
+points-once c Size o p h k = h ∙ sym k
+points-once c Room o p h k = h ∙ sym k
+points-once c Valuation o p h k = h ∙ sym k
+
 first-demand : (c : Call) (reply at : ℕ) → First c reply at → Demand1 c reply at
 first-demand c reply at (no-row z o none) = record {
   done = (λ e. none, λ h. z);
@@ -85,15 +101,17 @@ first-demand c reply at (some-row (row, m, o, f)) = record {
   done = (λ e. absurd (omega (arith, number-positive row)), λ h. absurd (h row (f .holds)));
   done-offset = λ e. absurd (omega (arith, number-positive row));
   refused = λ k p h. (
-    λ e. (row, m ∙ e .0, o ∙ e .1, f),
-    λ g. let same =
-        first-same c row (g .0) f (g .3) in (sym m ∙ ap number (sym same) ∙ g .1, sym o ∙ ap (offset (bytesOf c)) (sym same) ∙ g .2),
+    λ e. (row, m ∙ e .0, subst (Points c row) (e .1) o, f),
+    λ g. let same : g .0 ≡ row = first-same c row (g .0) f (g .3) in (
+      sym m ∙ ap number (sym same) ∙ g .1,
+      points-once c row at p o (subst (λ row. Points c row p) same (g .2)),
+    ),
   );
 }
 
 -- a row that holds where none before it does
-at-row : (c : Call) (row : Row) → Clear c (rank (headerCount (bytesOf c)) row) → When c row → First c (number row) (offset (bytesOf c) row)
-at-row c row clear holds = some-row (row, refl, refl, record { holds = holds; none-before = clear })
+at-row : (c : Call) (row : Row) → Clear c (rank (headerCount (bytesOf c)) row) → When c row → Points c row 0 → First c (number row) 0
+at-row c row clear holds points = some-row (row, refl, points, record { holds = holds; none-before = clear })
 
 -- the rows of the calls' own, one after the other
 module _ (c : Call) where
@@ -126,7 +144,7 @@ module _ (h : Handed) (t : List ℕ) (K : ℕ) (v : List ℕ) where
       → (x : Bool) → leb K 255 ≡ x → (y : Bool) → eqb (length runWords) S ≡ y → (a : Ran) → First runs
       ((cond x (cond y (Running.answerOf a) (Running.refusal 11 0)) (Running.refusal 8 0)) .reply)
       ((cond x (cond y (Running.answerOf a) (Running.refusal 11 0)) (Running.refusal 8 0)) .offset)
-  run-tested S i clear false e y f a = at-row runs Bound clear (leb-false K 255 e)
+  run-tested S i clear false e y f a = at-row runs Bound clear (leb-false K 255 e) refl
   run-tested S i clear true e y f a = go y f
     where
       bounded : Clear runs (8 + 3 * headerCount t)
@@ -134,7 +152,7 @@ module _ (h : Handed) (t : List ℕ) (K : ℕ) (v : List ℕ) where
 
       go : (y : Bool) → eqb (length runWords) S ≡ y → First runs
           ((cond y (Running.answerOf a) (Running.refusal 11 0)) .reply) ((cond y (Running.answerOf a) (Running.refusal 11 0)) .offset)
-      go false f = at-row runs Valuation bounded (λ l. eqb-false (length runWords) S f (words-length h (headerInputs t) v .1 l ∙ i))
+      go false f = at-row runs Valuation bounded (λ l. eqb-false (length runWords) S f (words-length h (headerInputs t) v .1 l ∙ i)) refl
       go true f =
           no-row refl refl (no-valuation runs bounded
           (λ l. l (words-length h (headerInputs t) v .0 (eqb-true (length runWords) S f ∙ sym i))))
@@ -146,14 +164,14 @@ module _ (h : Handed) (t : List ℕ) (K : ℕ) (v : List ℕ) where
       run-tested (head .inputs) (table-inputs t head is q) clear (leb K 255) refl (eqb (length runWords) (head .inputs)) refl
       (run is K runWords)
 
-  run-words-demand1 : All Byte t → Demand1 runs ((runAnswer t K runWords) .reply) ((runAnswer t K runWords) .offset)
+  run-words-demand1 : Demand1 runs ((runAnswer t K runWords) .reply) ((runAnswer t K runWords) .offset)
   unfolding runAnswer
-  run-words-demand1 o =
+  run-words-demand1 =
       first-demand runs ((runAnswer t K runWords) .reply) ((runAnswer t K runWords) .offset)
-      (run-first (readTable t) refl (table-reply runs refl o))
+      (run-first (readTable t) refl (table-reply runs refl))
 
-  pub run-demand1 : All Byte t → Demand1 (Run h t K v) ((ranWith h t K v) .reply) ((ranWith h t K v) .offset)
-  run-demand1 o = subst⁻¹ (λ a. Demand1 runs (a .reply) (a .offset)) (ran-words h t K v) (run-words-demand1 o)
+  pub run-demand1 : Demand1 (Run h t K v) ((ranWith h t K v) .reply) ((ranWith h t K v) .offset)
+  run-demand1 = subst⁻¹ (λ a. Demand1 runs (a .reply) (a .offset)) (ran-words h t K v) (run-words-demand1)
 
 -- ---- judging: 11
 
@@ -177,7 +195,8 @@ module _ (h : Handed) (t v : List ℕ) where
       go : (y : Bool) → eqb (length judgeWords) S ≡ y
           → First judges ((cond y (Judging.answerOf a) (Judging.refusal 11 0)) .reply)
           ((cond y (Judging.answerOf a) (Judging.refusal 11 0)) .offset)
-      go false f = at-row judges Valuation unbounded (λ l. eqb-false (length judgeWords) S f (words-length h (headerInputs t) v .1 l ∙ i))
+      go false f =
+          at-row judges Valuation unbounded (λ l. eqb-false (length judgeWords) S f (words-length h (headerInputs t) v .1 l ∙ i)) refl
       go true f =
           no-row refl refl (no-valuation judges unbounded
           (λ l. l (words-length h (headerInputs t) v .0 (eqb-true (length judgeWords) S f ∙ sym i))))
@@ -189,14 +208,14 @@ module _ (h : Handed) (t v : List ℕ) where
       judge-tested (head .inputs) (trace-inputs t head ts q) clear (eqb (length judgeWords) (head .inputs)) refl
       (judge ts (envOf judgeWords))
 
-  judge-words-demand1 : All Byte t → Demand1 judges ((judgeAnswer t judgeWords) .reply) ((judgeAnswer t judgeWords) .offset)
+  judge-words-demand1 : Demand1 judges ((judgeAnswer t judgeWords) .reply) ((judgeAnswer t judgeWords) .offset)
   unfolding judgeAnswer
-  judge-words-demand1 o =
+  judge-words-demand1 =
       first-demand judges ((judgeAnswer t judgeWords) .reply) ((judgeAnswer t judgeWords) .offset)
-      (judge-first (readTrace t) refl (trace-reply judges refl o))
+      (judge-first (readTrace t) refl (trace-reply judges refl))
 
-  pub judge-demand1 : All Byte t → Demand1 (Judge h t v) ((judgedWith h t v) .reply) ((judgedWith h t v) .offset)
-  judge-demand1 o = subst⁻¹ (λ a. Demand1 judges (a .reply) (a .offset)) (judged-words h t v) (judge-words-demand1 o)
+  pub judge-demand1 : Demand1 (Judge h t v) ((judgedWith h t v) .reply) ((judgedWith h t v) .offset)
+  judge-demand1 = subst⁻¹ (λ a. Demand1 judges (a .reply) (a .offset)) (judged-words h t v) (judge-words-demand1)
 
 -- ---- writing a trace: 8, 9 and 10
 
@@ -218,7 +237,7 @@ module _ (t : List ℕ) (K room : ℕ) where
       → (x : Bool) → leb K 255 ≡ x → (y : Bool) → (leb count 4096 && leb (length bytes) 65535) ≡ y → (z : Bool)
       → leb (length bytes) room ≡ z
       → First writing ((traced bytes x y z) .reply) ((traced bytes x y z) .offset)
-  trace-tested count bytes i j clear false e y f z g = at-row writing Bound clear (leb-false K 255 e)
+  trace-tested count bytes i j clear false e y f z g = at-row writing Bound clear (leb-false K 255 e) refl
   trace-tested count bytes i j clear true e y f z g = go y f z g
     where
       total : length (result writing) ≡ length bytes
@@ -245,8 +264,8 @@ module _ (t : List ℕ) (K room : ℕ) where
 
       go : (y : Bool) → (leb count 4096 && leb (length bytes) 65535) ≡ y → (z : Bool) → leb (length bytes) room ≡ z
           → First writing ((traced bytes true y z) .reply) ((traced bytes true y z) .offset)
-      go false f z g = at-row writing Size bounded (long f)
-      go true f false g = at-row writing Room (sized f) (omega (arith, leb-false (length bytes) room g, total))
+      go false f z g = at-row writing Size bounded (long f) refl
+      go true f false g = at-row writing Room (sized f) (omega (arith, leb-false (length bytes) room g, total)) refl
       go true f true g =
           no-row refl refl (no-valuation writing (no-room writing (sized f) (λ h. omega (arith, leb-true (length bytes) room g, total)))
           (λ h. h))
@@ -263,11 +282,11 @@ module _ (t : List ℕ) (K room : ℕ) where
       trace-tested (length ts) bytes (ap length same) (ap₂ (λ S ts. encodeTrace (traceHead S) ts) inputs same) clear (leb K 255) refl
       (leb (length ts) 4096 && leb (length bytes) 65535) refl (leb (length bytes) room) refl
 
-  pub write-trace-demand1 : All Byte t → Demand1 (WriteTrace t K room) ((traceAnswer t K room) .reply) ((traceAnswer t K room) .offset)
+  pub write-trace-demand1 : Demand1 (WriteTrace t K room) ((traceAnswer t K room) .reply) ((traceAnswer t K room) .offset)
   unfolding traceAnswer
-  write-trace-demand1 o =
+  write-trace-demand1 =
       first-demand writing ((traceAnswer t K room) .reply) ((traceAnswer t K room) .offset)
-      (trace-first (readTable t) refl (table-reply writing refl o))
+      (trace-first (readTable t) refl (table-reply writing refl))
 
 -- ---- slicing and writing a script: 10
 
@@ -285,7 +304,7 @@ module _ (c : Call) (room : ℕ) (unbound : When c Bound → ⊥) (unsized : Whe
       sized = no-size c (no-bound c clear unbound) unsized
 
       go : (y : Bool) → leb (length bytes) room ≡ y → First c (cond y 0 10) 0
-      go false f = at-row c Room sized (tight .1 (omega (arith, leb-false (length bytes) room f, total)))
+      go false f = at-row c Room sized (tight .1 (omega (arith, leb-false (length bytes) room f, total))) refl
       go true f =
           no-row refl refl
           (no-valuation c (no-room c sized (λ h. omega (arith, leb-true (length bytes) room f, tight .0 h, total))) unvalued)
@@ -309,11 +328,11 @@ module _ (t : List ℕ) (room : ℕ) where
       (fit-first slicing room (λ h. h) (λ h. h) (λ h. h) (λ h. h, λ h. h) bytes
       (ap₂ (λ head ts. encodeTrace head (slice ts)) (trace-head t head ts q) (ap listed q)) clear (leb (length bytes) room) refl)
 
-  pub slice-trace-demand1 : All Byte t → Demand1 (SliceTrace t room) ((sliceAnswer t room) .reply) ((sliceAnswer t room) .offset)
+  pub slice-trace-demand1 : Demand1 (SliceTrace t room) ((sliceAnswer t room) .reply) ((sliceAnswer t room) .offset)
   unfolding sliceAnswer
-  slice-trace-demand1 o =
+  slice-trace-demand1 =
       first-demand slicing ((sliceAnswer t room) .reply) ((sliceAnswer t room) .offset)
-      (slice-first (readTrace t) refl (trace-reply slicing refl o))
+      (slice-first (readTrace t) refl (trace-reply slicing refl))
 
 module _ (t : List ℕ) (room : ℕ) where
   abbrev scripting : Call
@@ -334,8 +353,8 @@ module _ (t : List ℕ) (room : ℕ) where
       (fit-first scripting room (λ h. h) (λ h. h) (λ h. h) (λ h. h, λ h. h) text
       (ap₂ scriptText (trace-inputs t head ts q) (ap listed q)) clear (leb (length text) room) refl)
 
-  pub write-script-demand1 : All Byte t → Demand1 (WriteScript t room) ((scriptAnswer t room) .reply) ((scriptAnswer t room) .offset)
+  pub write-script-demand1 : Demand1 (WriteScript t room) ((scriptAnswer t room) .reply) ((scriptAnswer t room) .offset)
   unfolding scriptAnswer
-  write-script-demand1 o =
+  write-script-demand1 =
       first-demand scripting ((scriptAnswer t room) .reply) ((scriptAnswer t room) .offset)
-      (script-first (readTrace t) refl (trace-reply scripting refl o))
+      (script-first (readTrace t) refl (trace-reply scripting refl))

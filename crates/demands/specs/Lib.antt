@@ -2,6 +2,7 @@
 pub mod Promised
 -- Demands 1 and 3.
 pub mod Valuation
+pub mod Expression
 pub mod Replies
 pub mod Refusals
 pub mod Demand3

@@ -3,8 +3,11 @@
 -- believes.
 use Prim.Native.Nat.{ℕ, _≤_}
 use mathlib.Core.Path.{_≡_}
+use mathlib.Core.Logic.{_⊎_}
+use mathlib.Core.Bool.{Bool}
 use mathlib.Core.List.{List}
 use lib.ListN.{length}
+use Rattle.expr.specs.declared.File.{File}
 use Rattle.expr.specs.Lists.{All}
 use Rattle.expr.specs.Number.{Byte}
 use Rattle.unwind.specs.declared.Answer as Written
@@ -15,6 +18,7 @@ use Rattle.script.specs.declared.Answer as Exported
 use Rattle.script.specs.Answer.{scriptAnswer, ScriptWritten}
 use Rattle.kadvitul.specs.Interface.{TraceNumber, TraceGives, SliceNumber, SliceGives, ScriptNumber, ScriptGives}
 use Rattle.demands.specs.Valuation.{Handed, ranWith, judgedWith}
+use Rattle.demands.specs.Expression.{IsExpr, BreaksAt}
 use Rattle.demands.specs.Replies.{Run, Judge, WriteTrace, SliceTrace, WriteScript, Demand1}
 use Rattle.demands.specs.Refusals.{RunRest, JudgeRest, TraceRest, SliceRest, ScriptRest, TraceGivesRest, SliceGivesRest}
 use Rattle.demands.specs.Refusals.{ScriptGivesRest}
@@ -24,16 +28,20 @@ use Rattle.demands.specs.Raising.{RunsRaised, TracesRaised, Settled}
 
 pub record Promised : Type 0 where
   -- demand 1: a numbered refusal exactly when its row is the first that holds
-  pub run-replies : (h : Handed) (t : List ℕ) (K : ℕ) (v : List ℕ) → All Byte t
+  pub run-replies : (h : Handed) (t : List ℕ) (K : ℕ) (v : List ℕ)
       → Demand1 (Run h t K v) ((ranWith h t K v) .reply) ((ranWith h t K v) .offset)
-  pub judge-replies : (h : Handed) (t v : List ℕ) → All Byte t
+  pub judge-replies : (h : Handed) (t v : List ℕ)
       → Demand1 (Judge h t v) ((judgedWith h t v) .reply) ((judgedWith h t v) .offset)
-  pub trace-replies : (t : List ℕ) (K room : ℕ) → All Byte t → Demand1 (WriteTrace t K room) ((traceAnswer t K room) .reply)
+  pub trace-replies : (t : List ℕ) (K room : ℕ) → Demand1 (WriteTrace t K room) ((traceAnswer t K room) .reply)
       ((traceAnswer t K room) .offset)
-  pub slice-replies : (t : List ℕ) (room : ℕ) → All Byte t → Demand1 (SliceTrace t room) ((sliceAnswer t room) .reply)
+  pub slice-replies : (t : List ℕ) (room : ℕ) → Demand1 (SliceTrace t room) ((sliceAnswer t room) .reply)
       ((sliceAnswer t room) .offset)
-  pub script-replies : (t : List ℕ) (room : ℕ) → All Byte t → Demand1 (WriteScript t room) ((scriptAnswer t room) .reply)
+  pub script-replies : (t : List ℕ) (room : ℕ) → Demand1 (WriteScript t room) ((scriptAnswer t room) .reply)
       ((scriptAnswer t room) .offset)
+  -- request 2026-08: an expression keeps its rules to its end or breaks them at some byte, not both, and not at two
+  pub keeps-or-breaks : (F : File) (may : ℕ → Bool) (e : List ℕ) → IsExpr F may e ⊎ ((i : ℕ) × BreaksAt F may e i)
+  pub keeps-not-breaks : (F : File) (may : ℕ → Bool) (e : List ℕ) → IsExpr F may e → (i : ℕ) → BreaksAt F may e i → ⊥
+  pub breaks-once : (F : File) (may : ℕ → Bool) (e : List ℕ) (i j : ℕ) → BreaksAt F may e i → BreaksAt F may e j → i ≡ j
   -- demand 1: what a refusal leaves
   pub run-rest : (h : Handed) (t : List ℕ) (K : ℕ) (v : List ℕ) → RunRest (ranWith h t K v)
   pub judge-rest : (h : Handed) (t v : List ℕ) → JudgeRest (judgedWith h t v)

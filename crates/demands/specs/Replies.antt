@@ -10,12 +10,8 @@ use lib.ListN.{length, take, drop, getD}
 use lib.Dec.{eqb}
 use Rattle.expr.specs.declared.File.{File}
 use Rattle.expr.specs.declared.File.the-variants.{Table, Trace}
-use Rattle.expr.specs.Lists.{All}
 use Rattle.expr.specs.Number.{numberOf}
-use Rattle.expr.specs.Token.{Token, exprBytes}
-use Rattle.expr.specs.TokenLaws.{Holds}
-use Rattle.expr.specs.Expr.{depthLimit, below}
-use Rattle.expr.specs.ExprLaws.{Ok}
+use Rattle.expr.specs.Expr.{below}
 use Rattle.file.specs.Outcome as Outcome
 use Rattle.file.specs.File.{inputsLimit, headerVersion, headerSize, headerTotal, headerInputs, headerCount, headOf}
 use Rattle.file.specs.Shown.{listed}
@@ -25,6 +21,7 @@ use Rattle.unwind.specs.Unwind.{unwind}
 use Rattle.slice.specs.Slice.{slice}
 use Rattle.script.specs.ScriptText.{scriptText}
 use Rattle.demands.specs.Valuation.{Handed, lengthFor}
+use Rattle.demands.specs.Expression.{BreaksAt}
 
 -- ---- where things stand
 
@@ -78,13 +75,6 @@ abbrev pub mayRead : File → List ℕ → (k x : ℕ) → Bool
 mayRead Table s k x = below (headerInputs s) x
 mayRead Trace s k x = below (headerInputs s) x || assignedBefore s k x
 
--- bytes that are an expression
-pub record IsExpr (F : File) (may : ℕ → Bool) (bytes : List ℕ) : Type 0 where
-  pub tokens : List Token
-  pub written : exprBytes F tokens ≡ bytes
-  pub operands : All (Holds F) tokens
-  pub right : Ok may (depthLimit F) 0 1 tokens
-
 -- ---- the rows
 
 -- 5, in a record
@@ -104,9 +94,10 @@ pub data Ruling : (F : File) (s : List ℕ) (k at : ℕ) → Type 0 where
   symbol-not-greater : {s : List ℕ} {k at : ℕ} (i : ℕ) → kindAt s at ≡ 1 → i < k → kindAt s (recordAt s i) ≡ 1
       → numberAt s at 3 2 ≤ numberAt s (recordAt s i) 3 2 → Ruling Trace s k at
 
--- 7: what follows the kind and its fields is no expression
-pub data Wording (F : File) (s : List ℕ) (k at : ℕ) : Type 0 where
-  no-expression : (m : ℕ) → fieldsAt F s at ≡ some m → (IsExpr F (mayRead F s k) (exprAt s at m) → ⊥) → Wording F s k at
+-- 7: the expression, which follows the kind and its fields, breaks its rules at this byte of the file
+pub data Wording (F : File) (s : List ℕ) (k at o : ℕ) : Type 0 where
+  breaks : (m i : ℕ) → fieldsAt F s at ≡ some m → BreaksAt F (mayRead F s k) (exprAt s at m) i → o ≡ at + (2 + m) + i
+      → Wording F s k at o
 
 -- a call, with all that it is given: a valuation as words or as bytes, a buffer by its room
 pub data Call : Type 0 where
@@ -150,21 +141,6 @@ number Size = 9
 number Room = 10
 number Valuation = 11
 
--- a record's first byte; the first spare byte
-abbrev pub offset : List ℕ → Row → ℕ
-offset s Short = 0
-offset s Version = 0
-offset s Total = 0
-offset s Limits = 0
-offset s (Frame k) = recordAt s k
-offset s (Rule k) = recordAt s k
-offset s (Expression k) = recordAt s k
-offset s Spare = recordAt s (headerCount s)
-offset s Bound = 0
-offset s Size = 0
-offset s Room = 0
-offset s Valuation = 0
-
 -- the bytes that a call would write
 abbrev pub result : Call → List ℕ
 result (Run h t K v) = []
@@ -182,7 +158,7 @@ When c Limits =
     (headerInputs (bytesOf c) ≤ inputsLimit (headerVersion (bytesOf c))) × (headerCount (bytesOf c) ≤ limit (fileOf c)) → ⊥
 When c (Frame k) = (k < headerCount (bytesOf c)) × Framing (fileOf c) (bytesOf c) (recordAt (bytesOf c) k)
 When c (Rule k) = (k < headerCount (bytesOf c)) × Ruling (fileOf c) (bytesOf c) k (recordAt (bytesOf c) k)
-When c (Expression k) = (k < headerCount (bytesOf c)) × Wording (fileOf c) (bytesOf c) k (recordAt (bytesOf c) k)
+When c (Expression k) = (k < headerCount (bytesOf c)) × ((o : ℕ) × Wording (fileOf c) (bytesOf c) k (recordAt (bytesOf c) k) o)
 When c Spare = recordAt (bytesOf c) (headerCount (bytesOf c)) < length (bytesOf c)
 When (Run h t K v) Bound = 255 < K
 When (Judge h t v) Bound = ⊥
@@ -206,6 +182,21 @@ When (WriteTrace t K room) Valuation = ⊥
 When (SliceTrace t room) Valuation = ⊥
 When (WriteScript t room) Valuation = ⊥
 
+-- the byte that a row points at: a record's first byte, the byte at which its expression breaks its rules, the first spare byte
+abbrev pub Points : Call → Row → (o : ℕ) → Type 0
+Points c Short o = o ≡ 0
+Points c Version o = o ≡ 0
+Points c Total o = o ≡ 0
+Points c Limits o = o ≡ 0
+Points c (Frame k) o = o ≡ recordAt (bytesOf c) k
+Points c (Rule k) o = o ≡ recordAt (bytesOf c) k
+Points c (Expression k) o = Wording (fileOf c) (bytesOf c) k (recordAt (bytesOf c) k) o
+Points c Spare o = o ≡ recordAt (bytesOf c) (headerCount (bytesOf c))
+Points c Bound o = o ≡ 0
+Points c Size o = o ≡ 0
+Points c Room o = o ≡ 0
+Points c Valuation o = o ≡ 0
+
 -- the order: 1 to 4; then record after record, within each 5, 6, 7; spare bytes; then 8 and 11, or 8, 9, 10, or 11, or 10
 abbrev pub rank : (n : ℕ) → Row → ℕ
 rank n Short = 0
@@ -227,9 +218,9 @@ pub record FirstRow (c : Call) (row : Row) : Type 0 where
   pub none-before : (other : Row) → rank (headerCount (bytesOf c)) other < rank (headerCount (bytesOf c)) row → When c other → ⊥
 
 -- demand 1, of a call that answers with this reply and offset: it is done exactly if no row holds; and it refuses with a number at an
--- offset exactly if a row of that number and offset holds and no row before it
+-- offset exactly if a row of that number holds and points there, and no row before it holds
 pub record Demand1 (c : Call) (reply at : ℕ) : Type 0 where
   pub done : (reply ≡ 0) ↔ ((row : Row) → When c row → ⊥)
   pub done-offset : reply ≡ 0 → at ≡ 0
   pub refused : (k o : ℕ) → 0 < k → ((reply ≡ k) × (at ≡ o))
-      ↔ ((row : Row) × (number row ≡ k) × (offset (bytesOf c) row ≡ o) × FirstRow c row)
+      ↔ ((row : Row) × (number row ≡ k) × Points c row o × FirstRow c row)

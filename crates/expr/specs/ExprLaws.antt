@@ -220,6 +220,30 @@ module _ (F : File) (may : ℕ → Bool) where
   pub parse-accepted : (bs : List ℕ) (e : List Token) → All Byte bs → parse F may bs ≡ Whole e → Accepted 0 bs e
   parse-accepted bs e o h = accepted-from 0 0 bs e o h
 
+-- the bytes from a breaking token on are no more than all
+pub breaks-inside : (F : File) (may : ℕ → Bool) (d k : ℕ) (bs rest : List ℕ) → parseFrom F may d k bs ≡ Breaks rest
+    → length rest ≤ length bs
+unfolding parseFrom
+breaks-inside F may d k [] rest h = go (eqb d 1) h
+  where
+    go : (x : Bool) → cond x (Whole []) (Breaks []) ≡ Breaks rest → length rest ≤ 0
+    go true h = absurd (let z : _≡_ {A = ℕ} 0 1 = cc in omega arith)
+    go false h = let e : rest ≡ [] = cc in omega (arith, ap length e)
+breaks-inside F may d (suc k) (b ∷ bs) rest h = omega (arith, breaks-inside F may d k bs rest h)
+breaks-inside F may d zero (b ∷ bs) rest h = go (readToken F (b ∷ bs)) h (λ c m. breaks-inside F may c m bs rest)
+  where
+    on : (t : Token) (x : Bool) (p : Parsed) → cond x (also t p) (Breaks (b ∷ bs)) ≡ Breaks rest
+        → (p ≡ Breaks rest → length rest ≤ length bs) → length rest ≤ suc (length bs)
+    on t false p h ih = let e : rest ≡ b ∷ bs = cc in omega (arith, ap length e)
+    on t true (Whole e) h ih = absurd (let z : _≡_ {A = ℕ} 0 1 = cc in omega arith)
+    on t true (Breaks xs) h ih = omega (arith, ih h)
+
+    go : (o : Option Token) → onToken F may d (b ∷ bs) o (λ c m. parseFrom F may c m bs) ≡ Breaks rest
+        → ((c m : ℕ) → parseFrom F may c m bs ≡ Breaks rest → length rest ≤ length bs) → length rest ≤ suc (length bs)
+    go none h ih = let e : rest ≡ b ∷ bs = cc in omega (arith, ap length e)
+    go (some t) h ih =
+        on t (fits may (depthLimit F) d t) (parseFrom F may (after d t) (operandCount F t) bs) h (ih (after d t) (operandCount F t))
+
 -- where more may be read, what was accepted is accepted
 pub parse-more : (F : File) (may might : ℕ → Bool) → ((s : ℕ) → may s ≡ true → might s ≡ true) → (d k : ℕ) (bs : List ℕ) (e : List Token)
     → parseFrom F may d k bs ≡ Whole e → parseFrom F might d k bs ≡ Whole e

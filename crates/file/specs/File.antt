@@ -61,24 +61,30 @@ headerReply known limit bs =
 
 -- ---- one record
 
--- what a record's bytes after its length come to: a thing, or the reply 5, 6 or 7
+-- why a record is refused, and where: 5 or 6, at its first byte; or 7, so many bytes before its end, at the first token at which its
+-- expression breaks the rules, or at the expression's end
+pub data Refusal : Type 0 where
+  AtRecord : (reply : ℕ) → Refusal
+  AtToken : (left : ℕ) → Refusal
+
+-- what a record's bytes after its length come to: a thing, or a refusal
 pub data Body (A : Type 0) : Type 0 where
   Good : A → Body A
-  Bad : (reply : ℕ) → Body A
+  Bad : Refusal → Body A
 
 module _ {A : Type 0} where
   -- a field of k bytes, or 5 where it is missing
   abbrev pub field : (k : ℕ) → List ℕ → (ℕ → List ℕ → Body A) → Body A
-  field k bs then = cond (leb k (length bs)) (then (numberOf k bs) (drop k bs)) (Bad 5)
+  field k bs then = cond (leb k (length bs)) (then (numberOf k bs) (drop k bs)) (Bad (AtRecord 5))
 
   -- a target or an assigned symbol against its rule is 6
   abbrev pub rule : Bool → Body A → Body A
-  rule b then = cond b then (Bad 6)
+  rule b then = cond b then (Bad (AtRecord 6))
 
   -- an expression against its rules is 7
   abbrev pub holding : (List Token → A) → Parsed → Body A
   holding f (Whole e) = Good (f e)
-  holding f (Breaks bs) = Bad 7
+  holding f (Breaks bs) = Bad (AtToken (length bs))
 
 -- the length of a record's bytes after its length field; 0, which is refused too, where that is missing or passes the end
 unfoldable pub frame : List ℕ → ℕ
@@ -86,7 +92,7 @@ frame bs = cond (leb 2 (length bs)) (cond (leb (2 + numberOf 2 bs) (length bs)) 
 
 -- ---- record after record
 
--- all records; or a reply with the bytes from the refused record, or the first spare byte, on
+-- all records; or a reply with the bytes from the refused record or token, or the first spare byte, on
 pub data Records (A : Type 0) : Type 0 where
   Read : List A → Records A
   Stop : (reply : ℕ) → List ℕ → Records A
@@ -98,7 +104,7 @@ pub data Input (A : Type 0) : Type 0 where
 
 module _ {A : Type 0} where
   unfoldable pub recordOf : (one : List ℕ → Body A) → List ℕ → Body A
-  recordOf one bs = cond (eqb (frame bs) 0) (Bad 5) (one (take (frame bs) (drop 2 bs)))
+  recordOf one bs = cond (eqb (frame bs) 0) (Bad (AtRecord 5)) (one (take (frame bs) (drop 2 bs)))
 
   abbrev pub before : A → Records A → Records A
   before a (Read xs) = Read (a ∷ xs)
@@ -106,7 +112,8 @@ module _ {A : Type 0} where
 
   abbrev pub onRecord : (here : List ℕ) → Body A → (A → Records A) → Records A
   onRecord here (Good a) rest = before a (rest a)
-  onRecord here (Bad r) rest = Stop r here
+  onRecord here (Bad (AtRecord r)) rest = Stop r here
+  onRecord here (Bad (AtToken left)) rest = Stop 7 (drop (2 + frame here - left) here)
 
   -- c records and nothing after them; `one` reads a record in the state that the records before it leave
   unfoldable pub records : {St : Type 0} → (one : St → List ℕ → Body A) → (next : St → A → St) → (c : ℕ) → St → List ℕ → Records A

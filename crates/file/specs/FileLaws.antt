@@ -18,11 +18,14 @@ use Rattle.expr.specs.Token.{Token}
 use Rattle.expr.specs.declared.File.{File}
 use Rattle.expr.specs.declared.accept.Checked.the-variants.{Fine, Broken}
 use Rattle.expr.specs.Shown.{checked}
+use Rattle.expr.specs.ExprLaws.{breaks-inside}
 use Rattle.expr.specs.Expr.{Parsed, Whole, Breaks, parse}
 use Rattle.expr.specs.Eval.{envOf}
-use Rattle.file.specs.Shown.{replyOf, exprReply, oneMore, readCount, readingOf, offsetsFrom, offsetsIn}
+use Rattle.file.specs.Shown.{faultAt, fine, faultOf, exprFault, oneMore, readCount, readingOf, offsetsFrom, offsetsIn}
+use Rattle.file.specs.declared.Fault.{Fault}
 use Rattle.file.specs.File.{Head, headSize, inputRoom, inputsLimit, headerVersion, headerSize, headerTotal, headerInputs, headerCount}
-use Rattle.file.specs.File.{headOf, afterHeader, headerReply, header, Body, Good, Bad, field, rule, holding, frame, Records, Read}
+use Rattle.file.specs.File.{headOf, afterHeader, headerReply, header, Refusal, AtRecord, AtToken, Body, Good, Bad, field, rule}
+use Rattle.file.specs.File.{holding, frame, Records, Read}
 use Rattle.file.specs.File.{Stop, Accepted, Refused, recordOf, before, onRecord, records, finish, readFile}
 
 -- ---- frames
@@ -61,11 +64,11 @@ module _ (bs : List ℕ) where
 module _ {A : Type 0} (one : List ℕ → Body A) (bs : List ℕ) where
   pub record-framed : (frame bs ≡ 0 → ⊥) → recordOf one bs ≡ one (take (frame bs) (drop 2 bs))
   unfolding recordOf
-  record-framed h = ap (λ b. cond b (Bad 5) (one (take (frame bs) (drop 2 bs)))) (ne-eqb (frame bs) 0 h)
+  record-framed h = ap (λ b. cond b (Bad (AtRecord 5)) (one (take (frame bs) (drop 2 bs)))) (ne-eqb (frame bs) 0 h)
 
-  pub record-unframed : frame bs ≡ 0 → recordOf one bs ≡ Bad 5
+  pub record-unframed : frame bs ≡ 0 → recordOf one bs ≡ Bad (AtRecord 5)
   unfolding recordOf
-  record-unframed h = ap (λ b. cond b (Bad 5) (one (take (frame bs) (drop 2 bs)))) (eq-eqb (frame bs) 0 h)
+  record-unframed h = ap (λ b. cond b (Bad (AtRecord 5)) (one (take (frame bs) (drop 2 bs)))) (eq-eqb (frame bs) 0 h)
 
   -- a record that is read is there
   pub record-good : (a : A) → recordOf one bs ≡ Good a → (frame bs ≡ 0 → ⊥) × (one (take (frame bs) (drop 2 bs)) ≡ Good a)
@@ -83,10 +86,13 @@ module _ {A : Type 0} (one : List ℕ → Body A) (s : List ℕ) (at len : ℕ) 
   pub record-inside : at + (2 + len) ≤ length s
   record-inside = let f = framed (drop at s) some-frame in omega (arith, f .inside, length-drop at s)
 
+  pub cut-length : length (take (at + (2 + len) - (at + 2)) (drop (at + 2) s)) ≡ len
+  cut-length =
+      length-take-le (at + (2 + len) - (at + 2)) (drop (at + 2) s) (omega (arith, record-inside, length-drop (at + 2) s))
+      ∙ (let z : at + (2 + len) - (at + 2) ≡ len = omega arith in z)
+
   pub cut-long : 0 < length (take (at + (2 + len) - (at + 2)) (drop (at + 2) s))
-  cut-long =
-      let l = length-take-le (at + (2 + len) - (at + 2)) (drop (at + 2) s) (omega (arith, record-inside, length-drop (at + 2) s)) in
-      omega (arith, h)
+  cut-long = omega (arith, h, cut-length)
 
   pub record-cut : recordOf one (drop at s) ≡ one (take (at + (2 + len) - (at + 2)) (drop (at + 2) s))
   record-cut =
@@ -98,54 +104,80 @@ module _ {A : Type 0} (one : List ℕ → Body A) (s : List ℕ) (at len : ℕ) 
 -- a record that is refused has the reply 5, 6 or 7
 abbrev pub Low : {A : Type 0} → Body A → Type 0
 Low (Good x) = Unit {0}
-Low (Bad r) = (5 ≤ r) × (r ≤ 7)
+Low (Bad (AtRecord r)) = (5 ≤ r) × (r ≤ 7)
+Low (Bad (AtToken left)) = Unit {0}
 
 module _ {A : Type 0} where
   pub holding-low : (f : List Token → A) (p : Parsed) → Low (holding f p)
   holding-low f (Whole e) = tt
-  holding-low f (Breaks bs) = (omega arith, omega arith)
+  holding-low f (Breaks bs) = tt
 
   pub cond-low : (b : Bool) (x y : Body A) → Low x → Low y → Low (cond b x y)
   cond-low true x y h k = h
   cond-low false x y h k = k
 
   -- a reply that is not 0 is a refusal's; one that is 0 is a thing's
-  pub reply-bad : (x : Body A) (r : ℕ) → r ≡ replyOf x → (r ≡ 0 → ⊥) → x ≡ Bad r
-  reply-bad (Good a) r e h = absurd (h e)
-  reply-bad (Bad q) r e h = ap {B = Body A} Bad (sym e)
+  pub fault-bad : (len : ℕ) (x : Body A) (f : Fault) → f ≡ faultOf len x → (f .reply ≡ 0 → ⊥)
+      → (r : Refusal) × (x ≡ Bad r) × (f ≡ faultAt len r)
+  fault-bad len (Good a) f e h = absurd (h (ap (λ f. f .reply) e))
+  fault-bad len (Bad r) f e h = (r, refl, e)
 
-  pub reply-good : (x : Body A) (r : ℕ) → Low x → r ≡ replyOf x → r ≡ 0 → (a : A) × (x ≡ Good a)
-  reply-good (Good a) r l e h = (a, refl)
-  reply-good (Bad q) r l e h = absurd (let k : 5 ≤ q = l .0 in omega arith)
+  -- and points into the record, or at its end
+  pub fault-inside : (len : ℕ) (x : Body A) (f : Fault) → f ≡ faultOf len x → f .from ≤ 2 + len
+  fault-inside len (Good a) f e = omega (arith, ap (λ f. f .from) e)
+  fault-inside len (Bad (AtRecord r)) f e = omega (arith, ap (λ f. f .from) e)
+  fault-inside len (Bad (AtToken left)) f e = omega (arith, ap (λ f. f .from) e)
+
+  pub fault-good : (len : ℕ) (x : Body A) (f : Fault) → Low x → f ≡ faultOf len x → f .reply ≡ 0 → (a : A) × (x ≡ Good a)
+  fault-good len (Good a) f l e h = (a, refl)
+  fault-good len (Bad (AtRecord q)) f l e h = absurd (let k : 5 ≤ q = l .0 in omega (arith, ap (λ f. f .reply) e))
+  fault-good len (Bad (AtToken left)) f l e h = absurd (omega (arith, ap (λ f. f .reply) e))
 
   record-low : (one : List ℕ → Body A) → ((bs : List ℕ) → Low (one bs)) → (bs : List ℕ) → Low (recordOf one bs)
   unfolding recordOf
-  record-low one low bs = cond-low (eqb (frame bs) 0) (Bad 5) (one (take (frame bs) (drop 2 bs))) (omega arith, omega arith)
+  record-low one low bs = cond-low (eqb (frame bs) 0) (Bad (AtRecord 5)) (one (take (frame bs) (drop 2 bs))) (omega arith, omega arith)
       (low (take (frame bs) (drop 2 bs)))
 
--- the reply to the expression from a place of a record on, by what the check of that part says
-module _ (F : File) (may : ℕ → Bool) (from : ℕ) (body : List ℕ) where
-  abbrev cut : Parsed
-  cut = parse F may (take (length body - from) (drop from body))
+-- what is wrong with the expression from a place of a record on, by what the check of that part says
+module _ (F : File) (may : ℕ → Bool) (from : ℕ) (body : List ℕ) (inside : from ≤ length body) where
+  abbrev part : List ℕ
+  part = take (length body - from) (drop from body)
 
-  same-part : parse F may (take (length body - from) (drop from body)) ≡ parse F may (drop from body)
+  same-part : parse F may part ≡ parse F may (drop from body)
   same-part = ap (parse F may) (take-all (length body - from) (drop from body) (omega (arith, length-drop from body)))
 
   pub expr-fine : (n : ℕ) → checked n (parse F may (take (length body - from) (drop from body))) ≡ Fine
-      → 0 ≡ exprReply (parse F may (drop from body))
-  expr-fine n h = go cut h ∙ ap exprReply same-part
+      → fine ≡ exprFault (length body) (parse F may (drop from body))
+  expr-fine n h = go (parse F may part) h ∙ ap (exprFault (length body)) same-part
     where
-      go : (p : Parsed) → checked n p ≡ Fine → 0 ≡ exprReply p
+      go : (p : Parsed) → checked n p ≡ Fine → fine ≡ exprFault (length body) p
       go (Whole e) h = refl
       go (Breaks bs) h = absurd (let z : _≡_ {A = ℕ} 0 1 = cc in omega arith)
 
-  pub expr-broken : (n i : ℕ) → checked n (parse F may (take (length body - from) (drop from body))) ≡ Broken i
-      → 7 ≡ exprReply (parse F may (drop from body))
-  expr-broken n i h = go cut h ∙ ap exprReply same-part
+  long : length part ≡ length body - from
+  long = length-take-le (length body - from) (drop from body) (omega (arith, length-drop from body))
+
+  -- the token stands in the part
+  pub broken-inside : (i : ℕ) → checked (length (take (length body - from) (drop from body)))
+      (parse F may (take (length body - from) (drop from body))) ≡ Broken i → from + i ≤ length body
+  broken-inside i h = go (parse F may part) h
     where
-      go : (p : Parsed) → checked n p ≡ Broken i → 7 ≡ exprReply p
+      go : (p : Parsed) → checked (length part) p ≡ Broken i → from + i ≤ length body
       go (Whole e) h = absurd (let z : _≡_ {A = ℕ} 0 1 = cc in omega arith)
-      go (Breaks bs) h = refl
+      go (Breaks bs) h = let e : length part - length bs ≡ i = cc in omega (arith, long, inside)
+
+  pub expr-broken : (i : ℕ) → checked (length (take (length body - from) (drop from body)))
+      (parse F may (take (length body - from) (drop from body))) ≡ Broken i
+      → record { reply = 7; from = 2 + from + i } ≡ exprFault (length body) (parse F may (drop from body))
+  expr-broken i h = go (parse F may part) refl h ∙ ap (exprFault (length body)) same-part
+    where
+      go : (p : Parsed) → parse F may part ≡ p → checked (length part) p ≡ Broken i
+          → record { reply = 7; from = 2 + from + i } ≡ exprFault (length body) p
+      go (Whole e) q h = absurd (let z : _≡_ {A = ℕ} 0 1 = cc in omega arith)
+      go (Breaks bs) q h =
+          let e : length part - length bs ≡ i = cc in
+          let short : length bs ≤ length part = breaks-inside F may 0 0 part bs q in
+          ap (λ x. record { reply = 7; from = x }) (let z : 2 + from + i ≡ 2 + length body - length bs = omega (arith, long, inside) in z)
 
 -- so have the records
 pub stop-low : {A St : Type 0} (one : St → List ℕ → Body A) (next : St → A → St) → ((σ : St) (bs : List ℕ) → Low (one σ bs))
@@ -165,7 +197,8 @@ stop-low {A = A} one next low (suc c) σ bs r rest e =
     go : (x : Body A) → Low x → onRecord bs x (λ a. records one next c (next σ a) (drop (2 + frame bs) bs)) ≡ Stop r rest
         → ((a : A) (q : ℕ) (xs : List ℕ) → records one next c (next σ a) (drop (2 + frame bs) bs) ≡ Stop q xs → (5 ≤ q) × (q ≤ 7))
         → (5 ≤ r) × (r ≤ 7)
-    go (Bad q) l e ih = let z : q ≡ r = cc in omega (arith, l .0, l .1)
+    go (Bad (AtRecord q)) l e ih = let z : q ≡ r = cc in omega (arith, l .0, l .1)
+    go (Bad (AtToken left)) l e ih = let z : 7 ≡ r = cc in omega arith
     go (Good a) l e ih = on a (records one next c (next σ a) (drop (2 + frame bs) bs)) refl e (ih a)
 
 -- ---- record after record, at an offset
@@ -178,9 +211,17 @@ module _ {A St : Type 0} (one : St → List ℕ → Body A) (next : St → A →
       ap (λ x. onRecord (drop at s) x (λ a. records one next c (next σ a) (drop (2 + frame (drop at s)) (drop at s)))) e
       ∙ ap (λ r. before a (records one next c (next σ a) r)) (drop-drop (2 + frame (drop at s)) at s)
 
-  pub records-bad : (r : ℕ) → recordOf (one σ) (drop at s) ≡ Bad r → records one next (suc c) σ (drop at s) ≡ Stop r (drop at s)
+  -- the reply's bytes begin where the code says
+  pub records-bad : (r : Refusal) → recordOf (one σ) (drop at s) ≡ Bad r → let f = faultAt (frame (drop at s)) r in
+      records one next (suc c) σ (drop at s) ≡ Stop (f .reply) (drop (at + f .from) s)
   unfolding records
-  records-bad r e = ap (λ x. onRecord (drop at s) x (λ a. records one next c (next σ a) (drop (2 + frame (drop at s)) (drop at s)))) e
+  records-bad r e =
+      ap (λ x. onRecord (drop at s) x (λ a. records one next c (next σ a) (drop (2 + frame (drop at s)) (drop at s)))) e ∙ go r
+    where
+      go : (r : Refusal) → onRecord (drop at s) (Bad r) (λ a. records one next c (next σ a) (drop (2 + frame (drop at s)) (drop at s)))
+          ≡ Stop ((faultAt (frame (drop at s)) r) .reply) (drop (at + (faultAt (frame (drop at s)) r) .from) s)
+      go (AtRecord r) = ap (λ i. Stop r (drop i s)) (let z : at ≡ at + 0 = omega arith in z)
+      go (AtToken left) = ap (Stop 7) (drop-drop (2 + frame (drop at s) - left) at s)
 
   pub count-good : (a : A) → recordOf (one σ) (drop at s) ≡ Good a
       → readCount one next (suc c) σ (drop at s) ≡ suc (readCount one next c (next σ a) (drop (at + (2 + frame (drop at s))) s))
@@ -189,7 +230,7 @@ module _ {A St : Type 0} (one : St → List ℕ → Body A) (next : St → A →
       ap (λ x. oneMore one next x (λ a. readCount one next c (next σ a) (drop (2 + frame (drop at s)) (drop at s)))) e
       ∙ ap (λ r. suc (readCount one next c (next σ a) r)) (drop-drop (2 + frame (drop at s)) at s)
 
-  pub count-bad : (r : ℕ) → recordOf (one σ) (drop at s) ≡ Bad r → readCount one next (suc c) σ (drop at s) ≡ 0
+  pub count-bad : (r : Refusal) → recordOf (one σ) (drop at s) ≡ Bad r → readCount one next (suc c) σ (drop at s) ≡ 0
   unfolding readCount
   count-bad r e = ap (λ x. oneMore one next x (λ a. readCount one next c (next σ a) (drop (2 + frame (drop at s)) (drop at s)))) e
 
@@ -527,20 +568,20 @@ copy-env n ws h =
 
 module _ {A : Type 0} where
   pub field-there : (k : ℕ) (bs : List ℕ) (f : ℕ → List ℕ → Body A) → k ≤ length bs → field k bs f ≡ f (numberOf k bs) (drop k bs)
-  field-there k bs f h = ap (λ b. cond b (f (numberOf k bs) (drop k bs)) (Bad 5)) (le-leb k (length bs) h)
+  field-there k bs f h = ap (λ b. cond b (f (numberOf k bs) (drop k bs)) (Bad (AtRecord 5))) (le-leb k (length bs) h)
 
-  pub field-missing : (k : ℕ) (bs : List ℕ) (f : ℕ → List ℕ → Body A) → length bs < k → field k bs f ≡ Bad 5
-  field-missing k bs f h = ap (λ b. cond b (f (numberOf k bs) (drop k bs)) (Bad 5)) (lt-leb k (length bs) h)
+  pub field-missing : (k : ℕ) (bs : List ℕ) (f : ℕ → List ℕ → Body A) → length bs < k → field k bs f ≡ Bad (AtRecord 5)
+  field-missing k bs f h = ap (λ b. cond b (f (numberOf k bs) (drop k bs)) (Bad (AtRecord 5))) (lt-leb k (length bs) h)
 
-  pub reply-holding : (f : List Token → A) (p : Parsed) → replyOf (holding f p) ≡ exprReply p
-  reply-holding f (Whole e) = refl
-  reply-holding f (Breaks bs) = refl
+  pub fault-holding : (len : ℕ) (f : List Token → A) (p : Parsed) → faultOf len (holding f p) ≡ exprFault len p
+  fault-holding len f (Whole e) = refl
+  fault-holding len f (Breaks bs) = refl
 
   pub field-good : (k : ℕ) (bs : List ℕ) (f : ℕ → List ℕ → Body A) (a : A) → field k bs f ≡ Good a
       → (k ≤ length bs) × (f (numberOf k bs) (drop k bs) ≡ Good a)
   field-good k bs f a h = go (leb k (length bs)) refl h
     where
-      go : (x : Bool) → leb k (length bs) ≡ x → cond x (f (numberOf k bs) (drop k bs)) (Bad 5) ≡ Good a
+      go : (x : Bool) → leb k (length bs) ≡ x → cond x (f (numberOf k bs) (drop k bs)) (Bad (AtRecord 5)) ≡ Good a
           → (k ≤ length bs) × (f (numberOf k bs) (drop k bs) ≡ Good a)
       go true e h = (leb-true k (length bs) e, h)
       go false e h = absurd (let z : _≡_ {A = ℕ} 0 1 = cc in omega arith)

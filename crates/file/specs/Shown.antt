@@ -9,22 +9,33 @@ use lib.Dec.{eqb}
 use Rattle.expr.specs.Number.{numberOf}
 use Rattle.expr.specs.Expr.{Parsed, Whole, Breaks}
 use Rattle.file.specs.Outcome.{Kind, Assume, Assert}
-use Rattle.file.specs.File.{Head, headerSize, headerCount, headOf, afterHeader, headerReply, Body, Good, Bad, frame, recordOf}
+use Rattle.file.specs.File.{Head, headerSize, headerCount, headOf, afterHeader, headerReply, Refusal, AtRecord, AtToken, Body, Good}
+use Rattle.file.specs.File.{Bad, frame, recordOf}
 use Rattle.file.specs.File.{Records, Read, Stop, records, Input, Accepted, Refused}
 use Rattle.file.specs.declared.Reading.{Reading}
+use Rattle.file.specs.declared.Fault.{Fault}
 
--- a reply's number, 0 for none
-abbrev pub replyOf : {A : Type 0} → Body A → ℕ
-replyOf (Good a) = 0
-replyOf (Bad r) = r
+-- what the code says of a refusal, in a record of `len` bytes after its length
+abbrev pub faultAt : (len : ℕ) → Refusal → Fault
+faultAt len (AtRecord r) = record { reply = r; from = 0 }
+faultAt len (AtToken left) = record { reply = 7; from = 2 + len - left }
+
+-- no fault
+abbrev pub fine : Fault
+fine = record { reply = 0; from = 0 }
+
+abbrev pub faultOf : {A : Type 0} → (len : ℕ) → Body A → Fault
+faultOf len (Good a) = fine
+faultOf len (Bad r) = faultAt len r
 
 abbrev pub isGood : {A : Type 0} → Body A → Bool
 isGood (Good a) = true
 isGood (Bad r) = false
 
-abbrev pub exprReply : Parsed → ℕ
-exprReply (Whole e) = 0
-exprReply (Breaks bs) = 7
+-- of the expression that ends a record
+abbrev pub exprFault : (len : ℕ) → Parsed → Fault
+exprFault len (Whole e) = fine
+exprFault len (Breaks bs) = faultAt len (AtToken (length bs))
 
 -- a test's kind by its code
 abbrev pub kindOf : (code : ℕ) → Kind

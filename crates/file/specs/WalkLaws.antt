@@ -6,11 +6,12 @@ use mathlib.Core.Path.{_≡_, refl, sym, ap, ap₂, _∙_, subst}
 use mathlib.Core.List.{List, []}
 use lib.ListN.{length, drop, set, length-drop}
 use lib.Seq.{sets, length-sets}
-use Rattle.file.specs.File.{headerSize, afterHeader, Body, Good, Bad, frame, Records, Read, Stop, recordOf, records}
-use Rattle.file.specs.Shown.{readCount, readingOf, offsetsFrom, offsetsIn, ReadRecords}
+use Rattle.file.specs.File.{headerSize, afterHeader, Refusal, Body, Good, Bad, frame, Records, Read, Stop, recordOf, records}
+use Rattle.file.specs.Shown.{faultAt, readCount, readingOf, offsetsFrom, offsetsIn, ReadRecords}
 use Rattle.file.specs.FileLaws.{reading-before, records-good, records-bad, count-good, count-bad, records-end, records-spare}
 use Rattle.file.specs.FileLaws.{offsets-length, Reached, reached-start, reached-next, reached-on, sets-snoc}
 use Rattle.file.specs.declared.Reading.{Reading}
+use Rattle.file.specs.declared.Fault.{Fault}
 
 module _ {A St : Type 0} (one : St → List ℕ → Body A) (next : St → A → St) (s : List ℕ) (n : ℕ) (σ₀ : St) (off₀ : List ℕ) where
   -- the answer's reading of c records from an offset on, with k before them
@@ -55,17 +56,26 @@ module _ {A St : Type 0} (one : St → List ℕ → Body A) (next : St → A →
       pub left : n - k ≡ suc (n - (k + 1))
       left = omega arith
 
-      pub refuse : (r : ℕ) → recordOf (one σ) (drop at s) ≡ Bad r → Done off (record { reply = r; offset = at; count = k })
-      refuse r e = record {
-        answer =
-            sym (
-            ap (λ c. from k c σ at) left
-            ∙ ap₂ (λ c p. readingOf (length s) (k + c) p) (count-bad one next s at (n - (k + 1)) σ r e)
-            (records-bad one next s at (n - (k + 1)) σ r e)
-            ∙ ap₂ (λ o c. record { reply = r; offset = o; count = c }) offset (let z : k + 0 ≡ k = omega arith in z))
-            ∙ w .same;
-        stored = w .stored;
-      }
+      -- with the code's own length of the record, what it finds wrong there, and the place of that
+      pub refuse : {len place : ℕ} {f : Fault} (r : Refusal) → recordOf (one σ) (drop at s) ≡ Bad r → len ≡ frame (drop at s)
+          → f ≡ faultAt len r → place ≡ at + f .from → place ≤ length s
+          → Done off (record { reply = f .reply; offset = place; count = k })
+      refuse {len} {place} {f} r e le is there inside =
+          let c = n - (k + 1) in
+          let g = faultAt (frame (drop at s)) r in
+          let same : f ≡ g = is ∙ ap (λ l. faultAt l r) le in
+          let start : place ≡ at + g .from = there ∙ ap (λ f. at + f .from) same in
+          let found : length s - length (drop (at + g .from) s) ≡ place = omega (arith, length-drop (at + g .from) s) in
+          record {
+            answer =
+                sym (
+                ap (λ c. from k c σ at) left
+                ∙ ap₂ (λ c p. readingOf (length s) (k + c) p) (count-bad one next s at c σ r e) (records-bad one next s at c σ r e)
+                ∙ ap₂ (λ o c. record { reply = g .reply; offset = o; count = c }) found (let z : k + 0 ≡ k = omega arith in z)
+                ∙ ap (λ f. record { reply = f .reply; offset = place; count = k }) (sym same))
+                ∙ w .same;
+            stored = w .stored;
+          }
 
       -- with the code's own length of the record
       pub on : (x : A) → recordOf (one σ) (drop at s) ≡ Good x → (len : ℕ) → len ≡ frame (drop at s) → at + (2 + len) ≤ length s

@@ -12,7 +12,7 @@ ghost use Rattle.expr.specs.Expr.{readable, parse};
 ghost use Rattle.file.specs.File.{headSize, inputsLimit, headerVersion, headerSize, headerTotal, headerInputs, headerCount};
 ghost use Rattle.file.specs.File.{headerReply, frame};
 ghost use Rattle.file.specs.Words.{wordsOf};
-ghost use Rattle.file.specs.Shown.{exprReply, restOf};
+ghost use Rattle.file.specs.Shown.{exprFault, restOf};
 
 // How far the records of a file were read: a reply with its offset, 0 if all are there and nothing after them; and the number of records
 // that were read before it.
@@ -20,6 +20,12 @@ pub struct Reading {
     pub reply: u8,
     pub offset: usize,
     pub count: usize,
+}
+
+// What is wrong with a record: a reply, 0 for nothing, and the byte that it points at, counted from the record's first.
+pub struct Fault {
+    pub reply: u8,
+    pub from: usize,
 }
 
 // Room for the inputs of any version.
@@ -115,15 +121,27 @@ pub fn frame_at(s: &[u8], at: usize) -> usize
     len
 }
 
-// The reply to the expression from a place of a record's body on: 0, or 7. It may read inputs, and the symbols that are marked as assigned.
-pub fn expr_reply(body: &[u8], from: usize, f: File, inputs: usize, assigned: &[bool]) -> u8
+// A fault of a whole record, at its first byte.
+pub fn at_record(reply: u8) -> Fault
+    ensures { λ r. ⌜ r ≡ record { reply = reply; from = 0 } ⌝ }
+{
+    Fault { reply, from: 0 }
+}
+
+// What is wrong with the expression from a place of a record's body on: nothing, or 7 at the token that breaks its rules. It may read
+// inputs, and the symbols that are marked as assigned.
+pub fn expr_fault(body: &[u8], from: usize, f: File, inputs: usize, assigned: &[bool]) -> Fault
     requires { ⌜ from ≤ length (now body) ⌝ }
-    ensures { λ r. ⌜ r ≡ exprReply (parse f (readable inputs (now (assigned .entry))) (drop from (now (body .entry)))) ⌝ }
+    ensures { λ r. ⌜ r ≡ exprFault (length (now (body .entry)))
+        (parse f (readable inputs (now (assigned .entry))) (drop from (now (body .entry)))) ⌝ }
 {
     let c = accept::check_expr(&body[from..], f, inputs, assigned);
     match c {
-        Checked::Fine => 0,
-        Checked::Broken(_) => 7,
+        Checked::Fine => Fault { reply: 0, from: 0 },
+        Checked::Broken(at) => Fault {
+            reply: 7,
+            from: 2 + from + at,
+        },
     }
 }
 

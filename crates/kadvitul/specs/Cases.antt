@@ -100,7 +100,7 @@ brokenTrace =
 judge-numbers : (map (λ w. judgeNumber w (judgeBytes threeTests (0x00 ∷ 0x00 ∷ 0x01 ∷ 0x00 ∷ 0x00 ∷ 0x00 ∷ 0x00 ∷ 0x00 ∷ 0x01 ∷ 0x00 ∷ 0x00
     ∷ 0x00 ∷ [])))
     (JudgeReply ∷ JudgeOffset ∷ JudgeVerdict ∷ JudgePlace ∷ []) ≡ 0 ∷ 0 ∷ 1 ∷ 11 ∷ [])
-    × (map (λ w. judgeNumber w (judgeBytes brokenTrace [])) (JudgeReply ∷ JudgeOffset ∷ JudgeVerdict ∷ JudgePlace ∷ []) ≡ 7 ∷ 14 ∷ 0 ∷ 0
+    × (map (λ w. judgeNumber w (judgeBytes brokenTrace [])) (JudgeReply ∷ JudgeOffset ∷ JudgeVerdict ∷ JudgePlace ∷ []) ≡ 7 ∷ 19 ∷ 0 ∷ 0
     ∷ [])
 unfolding judgeBytes readTrace isTrace traceVersion oldVersion tellsBound readFile headerReply headSize headerInputs headerCount
     inputsLimit inputRoom records
@@ -119,7 +119,7 @@ trace-numbers = (refl, refl, refl)
 slice-numbers : (map (λ w. sliceNumber w (sliceAnswer assumedLast 22))
     (SliceReply ∷ SliceOffset ∷ SliceLength ∷ SliceMask ∷ SliceInputs ∷ []) ≡ 0 ∷ 0 ∷ 22 ∷ 6 ∷ 2 ∷ [])
     × (map (λ w. sliceNumber w (sliceAnswer brokenTrace 22)) (SliceReply ∷ SliceOffset ∷ SliceLength ∷ SliceMask ∷ SliceInputs ∷ []) ≡ 7
-    ∷ 14 ∷ 0 ∷ 0 ∷ 0 ∷ [])
+    ∷ 19 ∷ 0 ∷ 0 ∷ 0 ∷ [])
 unfolding sliceAnswer readTrace isTrace traceVersion oldVersion tellsBound readFile headerReply headSize headerInputs headerCount
     inputsLimit inputRoom records
     recordOf frame stmt parseFrom readToken operator fits slice encode header ones
@@ -128,7 +128,7 @@ slice-numbers = (refl, refl)
 -- no input and no statement: 45 letters; and a room of 44
 script-numbers : (map (λ w. scriptNumber w (scriptAnswer emptyTrace 45)) (ScriptReply ∷ ScriptOffset ∷ ScriptLength ∷ []) ≡ 0 ∷ 0 ∷ 45 ∷ [])
     × (map (λ w. scriptNumber w (scriptAnswer emptyTrace 44)) (ScriptReply ∷ ScriptOffset ∷ ScriptLength ∷ []) ≡ 10 ∷ 0 ∷ 0 ∷ [])
-    × (map (λ w. scriptNumber w (scriptAnswer brokenTrace 45)) (ScriptReply ∷ ScriptOffset ∷ ScriptLength ∷ []) ≡ 7 ∷ 14 ∷ 0 ∷ [])
+    × (map (λ w. scriptNumber w (scriptAnswer brokenTrace 45)) (ScriptReply ∷ ScriptOffset ∷ ScriptLength ∷ []) ≡ 7 ∷ 19 ∷ 0 ∷ [])
 unfolding scriptAnswer readTrace isTrace traceVersion oldVersion tellsBound readFile headerReply headSize headerInputs headerCount
     inputsLimit inputRoom records recordOf frame stmt parseFrom readToken operator fits violation scriptOf scriptText
 script-numbers = (refl, refl, refl)

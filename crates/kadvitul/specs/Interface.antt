@@ -43,9 +43,9 @@ judgeBytes trace valuation = judgedBytes valuation (readTrace trace)
 
 -- ---- the numbers that the calls give, one each
 
--- the archive's version, 3.0.0: 10,000 times the first number, 100 times the second, and the third
+-- the archive's version, 4.0.0: 10,000 times the first number, 100 times the second, and the third
 abbrev pub archiveVersion : ℕ
-archiveVersion = 30000
+archiveVersion = 40000
 
 pub data RunNumber : Type 0 where
   RunReply RunOffset RunVerdict RunPlace RunBackJumps : RunNumber

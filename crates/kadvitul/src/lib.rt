@@ -54,7 +54,7 @@ fn judge_bytes(trace: &[u8], valuation: &[u8]) -> trace::Answer
 pub extern "C" fn kadvitul_version() -> u32
     ensures { λ r. ⌜ VersionGives r ⌝ }
 {
-    30000
+    40000
 }
 
 #[no_mangle]

@@ -120,7 +120,7 @@ unfolding sliceAnswer readTrace isTrace traceVersion oldVersion tellsBound readF
 numbers-stay = refl
 
 -- a refused trace writes nothing: its own refusals, with their offsets, come before 10
-refusals : (sliceAnswer [] 0 ≡ refusal 1 0) × (sliceAnswer (traceOf 2 (assert 0 1 ++ assert 1 3)) 0 ≡ refusal 7 14)
+refusals : (sliceAnswer [] 0 ≡ refusal 1 0) × (sliceAnswer (traceOf 2 (assert 0 1 ++ assert 1 3)) 0 ≡ refusal 7 19)
 unfolding sliceAnswer readTrace isTrace traceVersion oldVersion tellsBound readFile headerReply headSize headerInputs headerCount
     inputsLimit inputRoom records recordOf frame stmt parseFrom readToken operator fits
 refusals = (refl, refl)

@@ -1,5 +1,5 @@
 -- Document 01's small rule and other worked cases of running, on their real bytes: computed.
-use Prim.Native.Nat.{ℕ, zero, suc}
+use Prim.Native.Nat.{ℕ, zero, suc, _+_}
 use mathlib.Core.Path.{_≡_, refl}
 use mathlib.Core.List.{List, [], _∷_, _++_}
 use lib.ListN.{length}
@@ -95,12 +95,31 @@ at-the-end : readTable (0x01 ∷ 0x00 ∷ 0x06 ∷ 0x00 ∷ 0x00 ∷ 0x01 ∷ []
 unfolding readTable isTable readFile headerReply headSize headerInputs headerCount inputsLimit inputRoom records recordOf frame
 at-the-end = refl
 
+-- one input, assert s0, and a second record that assigns it by these bytes
+abbrev second : List ℕ → List ℕ
+second e =
+    0x01 ∷ 0x00 ∷ (length e + 15) ∷ 0x01 ∷ 0x00 ∷ 0x02
+    ∷ 0x00 ∷ 0x03 ∷ 0x03 ∷ 0x02 ∷ 0x00
+    ∷ 0x00 ∷ (length e + 2) ∷ 0x01 ∷ 0x00 ∷ e
+
 -- spare bytes are judged after all records: a 7 in the last record comes first
-spare : (readTable (0x01 ∷ 0x00 ∷ 0x0B ∷ 0x00 ∷ 0x00 ∷ 0x01 ∷ 0x00 ∷ 0x01 ∷ 0x02 ∷ 0x00 ∷ 0x00 ∷ []) ≡ Refused 7 6)
+spare : (readTable (0x01 ∷ 0x00 ∷ 0x0B ∷ 0x00 ∷ 0x00 ∷ 0x01 ∷ 0x00 ∷ 0x01 ∷ 0x02 ∷ 0x00 ∷ 0x00 ∷ []) ≡ Refused 7 9)
     × (readTable (0x01 ∷ 0x00 ∷ 0x08 ∷ 0x00 ∷ 0x00 ∷ 0x00 ∷ 0x00 ∷ 0x00 ∷ []) ≡ Refused 5 6)
 unfolding readTable isTable readFile headerReply headSize headerInputs headerCount inputsLimit inputRoom records recordOf frame instr
     parseFrom
 spare = (refl, refl)
+
+-- 7 points at the first token that breaks the rules, in the table: the second record's symbol s1, its constant without its last byte, its
+-- add over one word, a byte that is no token, and its end where two words are left, or none
+pointing : (readTable (second (0x02 ∷ 0x00 ∷ 0x02 ∷ 0x01 ∷ 0x20 ∷ [])) ≡ Refused 7 17)
+    × (readTable (second (0x02 ∷ 0x00 ∷ 0x01 ∷ 0x00 ∷ 0x00 ∷ 0x00 ∷ [])) ≡ Refused 7 17)
+    × (readTable (second (0x02 ∷ 0x00 ∷ 0x12 ∷ 0x20 ∷ 0x12 ∷ [])) ≡ Refused 7 18)
+    × (readTable (second (0x03 ∷ 0x00 ∷ 0x00 ∷ [])) ≡ Refused 7 15)
+    × (readTable (second (0x02 ∷ 0x00 ∷ 0x02 ∷ 0x00 ∷ [])) ≡ Refused 7 19)
+    × (readTable (second []) ≡ Refused 7 15)
+unfolding readTable isTable readFile headerReply headSize headerInputs headerCount inputsLimit inputRoom records recordOf frame instr
+    parseFrom readToken fits operator
+pointing = (refl, refl, refl, refl, refl, refl)
 
 -- a target against its rule is 6, even before an expression that is 7; kind 0 and kind 5 are 5
 faults : (readTable (0x01 ∷ 0x00 ∷ 0x0B ∷ 0x00 ∷ 0x00 ∷ 0x01 ∷ 0x00 ∷ 0x03 ∷ 0x04 ∷ 0x00 ∷ 0x02 ∷ []) ≡ Refused 6 6)

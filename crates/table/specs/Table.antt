@@ -7,7 +7,7 @@ use Rattle.expr.specs.declared.File.the-variants.{Table}
 use Rattle.expr.specs.Token.{Token}
 use Rattle.expr.specs.Expr.{below, parse}
 use Rattle.file.specs.Outcome.{Kind, Assume, Assert}
-use Rattle.file.specs.File.{Head, Body, Bad, field, rule, holding, Records, records, Input, readFile}
+use Rattle.file.specs.File.{Head, AtRecord, Body, Bad, field, rule, holding, Records, records, Input, readFile}
 
 pub data Instr : Type 0 where
   Assign : (symbol : ℕ) → List Token → Instr
@@ -29,13 +29,13 @@ ifThenGoto S n t bs = rule (leb t n) (holding (IfThenGoto t) (parse Table (below
 
 -- the bytes after a record's length
 unfoldable pub instr : (S n : ℕ) → List ℕ → Body Instr
-instr S n [] = Bad 5
+instr S n [] = Bad (AtRecord 5)
 instr S n (kind ∷ bs) =
     cond (eqb kind 1) (field 1 bs (assign S))
     (cond (eqb kind 2) (test S Assume bs)
     (cond (eqb kind 3) (test S Assert bs)
     (cond (eqb kind 4) (field 2 bs (ifThenGoto S n))
-    (Bad 5))))
+    (Bad (AtRecord 5)))))
 
 -- c of the n instructions, and nothing after them
 abbrev pub instrsFrom : (S n c : ℕ) → List ℕ → Records Instr

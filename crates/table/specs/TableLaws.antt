@@ -16,7 +16,8 @@ use Rattle.expr.specs.Expr.{below, Whole, parse}
 use Rattle.expr.specs.TokenLaws.{Holds}
 use Rattle.expr.specs.ExprLaws.{Ok, parse-accepted, parse-more}
 use Rattle.file.specs.Outcome.{Assume, Assert}
-use Rattle.file.specs.File.{Head, inputRoom, headerVersion, headerSize, headerInputs, headerCount, Body, Good, Bad, field, frame, Read}
+use Rattle.file.specs.File.{Head, inputRoom, headerVersion, headerSize, headerInputs, headerCount, AtRecord, Body, Good, Bad, field, frame}
+use Rattle.file.specs.File.{Read}
 use Rattle.file.specs.File.{recordOf, Accepted, Refused}
 use Rattle.file.specs.Shown.{offsetsFrom}
 use Rattle.file.specs.FileLaws.{Low, holding-low, cond-low, framed, record-framed, record-good, next-record, Chain, records-chain}
@@ -35,7 +36,7 @@ module _ (S n : ℕ) (body : List ℕ) (h : 0 < length body) where
       (cond (eqb (getD body 0 0) 2) (test S Assume (drop 1 body))
       (cond (eqb (getD body 0 0) 3) (test S Assert (drop 1 body))
       (cond (eqb (getD body 0 0) 4) (field 2 (drop 1 body) (ifThenGoto S n))
-      (Bad 5))))
+      (Bad (AtRecord 5)))))
   unfolding instr
   opened [] h = absurd (omega arith)
   opened (k ∷ bs) h = refl
@@ -60,7 +61,7 @@ module _ (S n : ℕ) (body : List ℕ) (h : 0 < length body) where
       )
 
   pub kind-unknown : (getD body 0 0 ≡ 1 → ⊥) → (getD body 0 0 ≡ 2 → ⊥) → (getD body 0 0 ≡ 3 → ⊥) → (getD body 0 0 ≡ 4 → ⊥)
-      → instr S n body ≡ Bad 5
+      → instr S n body ≡ Bad (AtRecord 5)
   kind-unknown a b c d = opened body h ∙ rw (ne-eqb kind 1 a, ne-eqb kind 2 b, ne-eqb kind 3 c, ne-eqb kind 4 d)
 
 pub instr-low : (S n : ℕ) (bs : List ℕ) → Low (instr S n bs)

@@ -1,6 +1,7 @@
 // The instructions of a table.
 use expr::File;
 use expr::number;
+use file::Fault;
 use file::Reading;
 ghost use mathlib.Core.Path.{_≡_};
 ghost use Prim.Native.Nat.{_+_, _≤_, _<_};
@@ -8,51 +9,51 @@ ghost use lib.ListN.{length, drop, getD};
 ghost use Rattle.expr.specs.declared.File.the-variants.{Table};
 ghost use Rattle.expr.specs.Number.{numberOf};
 ghost use Rattle.expr.specs.Expr.{below, parse};
-ghost use Rattle.file.specs.Shown.{replyOf, exprReply};
+ghost use Rattle.file.specs.Shown.{faultOf, exprFault};
 ghost use Rattle.file.specs.File.{headerSize};
 ghost use Rattle.table.specs.Table.{instr, isTable};
 ghost use Rattle.table.specs.Shown.{exprStart, exprPart, ReadRecords, ReadTable};
 
-// The expression from a place of a record on: 0, or 7.
-fn expr_reply(body: &[u8], from: usize, inputs: usize) -> u8
+// What is wrong with the expression from a place of a record on.
+fn expr_fault(body: &[u8], from: usize, inputs: usize) -> Fault
     requires { ⌜ from ≤ length (now body) ⌝ }
-    ensures { λ r. ⌜ r ≡ exprReply (parse Table (below inputs) (drop from (now (body .entry)))) ⌝ }
+    ensures { λ r. ⌜ r ≡ exprFault (length (now (body .entry))) (parse Table (below inputs) (drop from (now (body .entry)))) ⌝ }
 {
     let none: [bool; 0] = [false; 0];
-    file::expr_reply(body, from, File::Table, inputs, &none)
+    file::expr_fault(body, from, File::Table, inputs, &none)
 }
 
-// A record's bytes after its length: 0, or the reply 5, 6 or 7.
-fn body_reply(body: &[u8], inputs: usize, n: usize) -> u8
+// What is wrong with a record's bytes after its length.
+fn body_fault(body: &[u8], inputs: usize, n: usize) -> Fault
     requires { ⌜ 0 < length (now body) ⌝ }
-    ensures { λ r. ⌜ r ≡ replyOf (instr inputs n (now (body .entry))) ⌝ }
+    ensures { λ r. ⌜ r ≡ faultOf (length (now (body .entry))) (instr inputs n (now (body .entry))) ⌝ }
 {
     let kind = body[0];
     if kind == 1 {
         if body.len() < 2 {
-            return 5;
+            return file::at_record(5);
         }
         if inputs <= number::byte_at(body, 1) {
-            return 6;
+            return file::at_record(6);
         }
-        return expr_reply(body, 2, inputs);
+        return expr_fault(body, 2, inputs);
     }
     if kind == 4 {
         if body.len() < 3 {
-            return 5;
+            return file::at_record(5);
         }
         if n < number::two_at(body, 1) {
-            return 6;
+            return file::at_record(6);
         }
-        return expr_reply(body, 3, inputs);
+        return expr_fault(body, 3, inputs);
     }
     if kind == 2 {
-        return expr_reply(body, 1, inputs);
+        return expr_fault(body, 1, inputs);
     }
     if kind == 3 {
-        return expr_reply(body, 1, inputs);
+        return expr_fault(body, 1, inputs);
     }
-    5
+    file::at_record(5)
 }
 
 // Reads the records after the header, and stores their offsets.
@@ -71,11 +72,11 @@ fn read_records(table: &[u8], inputs: usize, n: usize, offsets: &mut [u16]) -> R
                 count: k,
             };
         }
-        let reply = body_reply(&table[at + 2..at + (2 + len)], inputs, n);
-        if reply != 0 {
+        let fault = body_fault(&table[at + 2..at + (2 + len)], inputs, n);
+        if fault.reply != 0 {
             return Reading {
-                reply: reply,
-                offset: at,
+                reply: fault.reply,
+                offset: at + fault.from,
                 count: k,
             };
         }

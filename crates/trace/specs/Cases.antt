@@ -1,5 +1,5 @@
 -- Document 01's marked cases of judging, on their real bytes: computed.
-use Prim.Native.Nat.{ℕ, zero, suc}
+use Prim.Native.Nat.{ℕ, zero, suc, _+_}
 use mathlib.Core.Path.{_≡_, refl}
 use mathlib.Core.List.{List, [], _∷_, _++_}
 use lib.ListN.{length}
@@ -201,10 +201,27 @@ sentences : (judgeAnswer (traceOf 16 1 fails) [] ≡ unsafeAt 7) × (judgeAnswer
     × (judgeAnswer (traceOf 26 2 (fails ++ excuses)) [] ≡ unsafeAt 7) × (judgeAnswer (traceOf 26 2 (excuses ++ fails)) [] ≡ stopped)
     × (judgeAnswer (traceOf 28 2 (one 1 ++ copies 2 1)) [] ≡ ended) × (judgeAnswer (traceOf 30 2 (one 1 ++ one 1)) [] ≡ refusal 6 18)
     × (judgeAnswer (traceOf 30 2 (one 1 ++ one 0)) [] ≡ refusal 6 18)
-    × (judgeAnswer (traceOf 16 1 (copies 0 0)) [] ≡ refusal 7 6) × (judgeAnswer (traceOf 28 2 (one 1 ++ copies 2 0)) [] ≡ refusal 7 18)
+    × (judgeAnswer (traceOf 16 1 (copies 0 0)) [] ≡ refusal 7 13) × (judgeAnswer (traceOf 28 2 (one 1 ++ copies 2 0)) [] ≡ refusal 7 25)
 unfolding judgeAnswer readTrace isTrace traceVersion oldVersion tellsBound readFile headerReply headSize headerInputs headerCount
     inputsLimit inputRoom records recordOf frame stmt parseFrom readToken operator fits judge value unary binary
 sentences = (refl, refl, refl, refl, refl, refl, refl, refl, refl)
+
+-- after an assign of 1 to symbol 3, an assert of these bytes
+abbrev then : List ℕ → List ℕ
+then e = traceOf (length e + 23) 2 (one 3 ++ 0x00 ∷ (length e + 3) ∷ 0x03 ∷ 0x00 ∷ 0x07 ∷ e)
+
+-- 7 points at the first token that breaks the rules, in the trace: a symbol that was skipped, a symbol of a table, a constant and a symbol
+-- without their last byte, an ite over two words, and the end where two words are left, or none
+pointing : (judgeAnswer (then (0x03 ∷ 0x00 ∷ 0x03 ∷ 0x03 ∷ 0x00 ∷ 0x02 ∷ 0x20 ∷ [])) [] ≡ refusal 7 26)
+    × (judgeAnswer (then (0x02 ∷ 0x03 ∷ [])) [] ≡ refusal 7 23)
+    × (judgeAnswer (then (0x03 ∷ 0x00 ∷ 0x03 ∷ 0x01 ∷ 0x00 ∷ 0x00 ∷ 0x00 ∷ [])) [] ≡ refusal 7 26)
+    × (judgeAnswer (then (0x03 ∷ 0x00 ∷ 0x03 ∷ 0x03 ∷ 0x00 ∷ [])) [] ≡ refusal 7 26)
+    × (judgeAnswer (then (0x03 ∷ 0x00 ∷ 0x03 ∷ 0x03 ∷ 0x00 ∷ 0x03 ∷ 0x30 ∷ 0x12 ∷ [])) [] ≡ refusal 7 29)
+    × (judgeAnswer (then (0x03 ∷ 0x00 ∷ 0x03 ∷ 0x03 ∷ 0x00 ∷ 0x03 ∷ [])) [] ≡ refusal 7 29)
+    × (judgeAnswer (then []) [] ≡ refusal 7 23)
+unfolding judgeAnswer readTrace isTrace traceVersion oldVersion tellsBound readFile headerReply headSize headerInputs headerCount
+    inputsLimit inputRoom records recordOf frame stmt parseFrom readToken operator fits judge value unary binary
+pointing = (refl, refl, refl, refl, refl, refl, refl)
 
 -- at place p a test of a constant below 256
 abbrev testOf : (kind p n : ℕ) → List ℕ

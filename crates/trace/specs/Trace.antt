@@ -9,7 +9,7 @@ use Rattle.expr.specs.Token.{Token, exprBytes}
 use Rattle.expr.specs.Expr.{below, parse}
 use Rattle.expr.specs.Eval.{reads}
 use Rattle.file.specs.Outcome.{Kind, Assume, Assert, Bound}
-use Rattle.file.specs.File.{Head, Body, Bad, field, rule, holding, Records, records, Input, readFile, encode}
+use Rattle.file.specs.File.{Head, AtRecord, Body, Bad, field, rule, holding, Records, records, Input, readFile, encode}
 
 pub data Stmt : Type 0 where
   Assign : (place symbol : ℕ) → List Token → Stmt
@@ -62,13 +62,13 @@ testAt σ k p bs = holding (Test k p) (parse Trace (σ .readable) bs)
 
 -- the bytes after a record's length
 unfoldable pub stmt : (top : ℕ) → Seen → List ℕ → Body Stmt
-stmt top σ [] = Bad 5
+stmt top σ [] = Bad (AtRecord 5)
 stmt top σ (kind ∷ bs) =
     cond (eqb kind 1) (field 2 bs (assignAt top σ))
     (cond (eqb kind 2) (field 2 bs (testAt σ Assume))
     (cond (eqb kind 3) (field 2 bs (testAt σ Assert))
     (cond (σ .bounds && eqb kind 4) (field 2 bs (testAt σ Bound))
-    (Bad 5))))
+    (Bad (AtRecord 5)))))
 
 -- c of the statements, and nothing after them
 abbrev pub stmtsFrom : (S c : ℕ) → Seen → List ℕ → Records Stmt

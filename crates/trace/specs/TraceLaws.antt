@@ -15,7 +15,8 @@ use Rattle.expr.specs.Token.{Token}
 use Rattle.expr.specs.Expr.{readable, Whole, parse}
 use Rattle.expr.specs.ExprLaws.{parse-more}
 use Rattle.file.specs.Outcome.{Kind, Assume, Assert, Bound}
-use Rattle.file.specs.File.{Head, inputRoom, headerInputs, headOf, Body, Good, Bad, field, frame, Read, recordOf, Accepted, Refused}
+use Rattle.file.specs.File.{Head, inputRoom, headerInputs, headOf, AtRecord, Body, Good, Bad, field, frame, Read, recordOf, Accepted}
+use Rattle.file.specs.File.{Refused}
 use Rattle.file.specs.Shown.{offsetsFrom}
 use Rattle.file.specs.FileLaws.{Low, holding-low, cond-low, framed, record-framed, record-good, next-record, records-chain, file-is}
 use Rattle.file.specs.FileLaws.{file-refused-low, field-there, field-good, rule-good, holding-good}
@@ -41,7 +42,7 @@ module _ (top : ℕ) (σ : Seen) (body : List ℕ) (h : 0 < length body) where
       (cond (eqb (getD body 0 0) 2) (field 2 (drop 1 body) (testAt σ Assume))
       (cond (eqb (getD body 0 0) 3) (field 2 (drop 1 body) (testAt σ Assert))
       (cond (σ .bounds && eqb (getD body 0 0) 4) (field 2 (drop 1 body) (testAt σ Bound))
-      (Bad 5))))
+      (Bad (AtRecord 5)))))
   unfolding stmt
   opened [] h = absurd (omega arith)
   opened (k ∷ bs) h = refl
@@ -56,7 +57,7 @@ module _ (top : ℕ) (σ : Seen) (body : List ℕ) (h : 0 < length body) where
       opened body h
       ∙ rw (ne-eqb kind 1 (λ q. omega arith), ne-eqb kind 2 (λ q. omega arith), ne-eqb kind 3 (λ q. omega arith), t, eq-eqb kind 4 e)
 
-  pub kind-unknown : (getD body 0 0 ≡ 1 → ⊥) → knownTest (σ .bounds) (getD body 0 0) ≡ false → stmt top σ body ≡ Bad 5
+  pub kind-unknown : (getD body 0 0 ≡ 1 → ⊥) → knownTest (σ .bounds) (getD body 0 0) ≡ false → stmt top σ body ≡ Bad (AtRecord 5)
   kind-unknown a u = opened body h ∙ rw (ne-eqb kind 1 a) (go (eqb kind 2) refl (eqb kind 3) refl (eqb kind 4) refl (σ .bounds) u)
     where
       four : eqb (getD body 0 0) 4 ≡ true → (m : ℕ) → (m ≡ 4 → ⊥) → eqb (getD body 0 0) m ≡ true → ⊥
@@ -64,7 +65,7 @@ module _ (top : ℕ) (σ : Seen) (body : List ℕ) (h : 0 < length body) where
 
       go : (x : Bool) → eqb kind 2 ≡ x → (y : Bool) → eqb kind 3 ≡ y → (z : Bool) → eqb kind 4 ≡ z → (b : Bool) → cond z b (x || y) ≡ false
           → cond x (field 2 (drop 1 body) (testAt σ Assume)) (cond y (field 2 (drop 1 body) (testAt σ Assert))
-          (cond (b && z) (field 2 (drop 1 body) (testAt σ Bound)) (Bad 5))) ≡ Bad 5
+          (cond (b && z) (field 2 (drop 1 body) (testAt σ Bound)) (Bad (AtRecord 5)))) ≡ Bad (AtRecord 5)
       go true e y f true g b u = absurd (four g 2 (λ q. omega arith) e)
       go true e y f false g b u = absurd (let w : _≡_ {A = ℕ} 0 1 = cc in omega arith)
       go false e true f true g b u = absurd (four g 3 (λ q. omega arith) f)

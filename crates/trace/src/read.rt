@@ -4,6 +4,7 @@ use super::SYMBOL_ROOM;
 use super::VERSION;
 use expr::File;
 use expr::number;
+use file::Fault;
 use file::Reading;
 ghost use mathlib.Core.Path.{_≡_};
 ghost use mathlib.Core.Bool.{true};
@@ -11,7 +12,7 @@ ghost use Prim.Native.Nat.{_+_, _≤_, _<_};
 ghost use lib.ListN.{length, drop, getD};
 ghost use Rattle.expr.specs.Number.{numberOf};
 ghost use Rattle.file.specs.File.{inputRoom, headerSize, recordOf};
-ghost use Rattle.file.specs.Shown.{replyOf, isGood};
+ghost use Rattle.file.specs.Shown.{faultOf, isGood};
 ghost use Rattle.trace.specs.Trace.{stmt, isTrace, tellsBound};
 ghost use Rattle.trace.specs.Shown.{symbolRoom, exprStart, exprPart, knownTest, seen, leastAfter, markedBy, ReadRecords, ReadTrace};
 
@@ -28,32 +29,33 @@ fn known_test(kind: u8, bounds: bool) -> bool
     kind == 3
 }
 
-// A record's bytes after its length: 0, or the reply 5, 6 or 7.
-fn body_reply(body: &[u8], inputs: usize, least: usize, assigned: &[bool], bounds: bool) -> u8
+// What is wrong with a record's bytes after its length.
+fn body_fault(body: &[u8], inputs: usize, least: usize, assigned: &[bool], bounds: bool) -> Fault
     requires { ⌜ (0 < length (now body)) × (inputs ≤ inputRoom) ⌝ }
-    ensures { λ r. ⌜ r ≡ replyOf (stmt (inputs + 4096) (seen inputs least (now (assigned .entry)) bounds) (now (body .entry))) ⌝ }
+    ensures { λ r. ⌜ r ≡ faultOf (length (now (body .entry)))
+        (stmt (inputs + 4096) (seen inputs least (now (assigned .entry)) bounds) (now (body .entry))) ⌝ }
 {
     let kind = body[0];
     if kind == 1 {
         if body.len() < 5 {
-            return 5;
+            return file::at_record(5);
         }
         let symbol = number::two_at(body, 3);
         if symbol < least {
-            return 6;
+            return file::at_record(6);
         }
         if inputs + 4096 <= symbol {
-            return 6;
+            return file::at_record(6);
         }
-        return file::expr_reply(body, 5, File::Trace, inputs, assigned);
+        return file::expr_fault(body, 5, File::Trace, inputs, assigned);
     }
     if known_test(kind, bounds) {
         if body.len() < 3 {
-            return 5;
+            return file::at_record(5);
         }
-        return file::expr_reply(body, 3, File::Trace, inputs, assigned);
+        return file::expr_fault(body, 3, File::Trace, inputs, assigned);
     }
-    5
+    file::at_record(5)
 }
 
 // After the statement at a place: marks the symbol that it assigns, and gives the least that may be assigned then.
@@ -99,17 +101,17 @@ fn read_records(trace: &[u8], inputs: usize, bounds: bool, n: usize, offsets: &m
                 count: k,
             };
         }
-        let reply = body_reply(
+        let fault = body_fault(
             &trace[at + 2..at + (2 + len)],
             inputs,
             least,
             &assigned,
             bounds,
         );
-        if reply != 0 {
+        if fault.reply != 0 {
             return Reading {
-                reply: reply,
-                offset: at,
+                reply: fault.reply,
+                offset: at + fault.from,
                 count: k,
             };
         }

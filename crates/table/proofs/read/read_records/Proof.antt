@@ -1,13 +1,14 @@
 -- The invariant is `Walking`: see there. Each turn reads one record, whose reading does not depend on those before it.
-use Prim.Native.Nat.{_+_, _-_, _≤_}
+use Prim.Native.Nat.{ℕ, _+_, _-_, _≤_}
 use native.Mathlib.Omega.{arith}
-use mathlib.Core.Path.{_≡_, sym, _∙_}
+use mathlib.Core.Path.{_≡_, refl, sym, _∙_}
+use mathlib.Core.List.{List}
 use lib.ListN.{length, take, drop}
 use borrow.Author.Needs.{needs}
-use Rattle.file.specs.File.{recordOf}
+use Rattle.file.specs.File.{AtRecord, Body, recordOf}
 use Rattle.file.specs.WalkLaws.{Walking, long, start, refuse, on, done, spare}
-use Rattle.file.specs.FileLaws.{record-unframed, record-inside, cut-long, record-cut, reply-bad, reply-good}
-use Rattle.table.specs.Table.{instr}
+use Rattle.file.specs.FileLaws.{record-unframed, record-inside, cut-length, cut-long, record-cut, fault-bad, fault-inside, fault-good}
+use Rattle.table.specs.Table.{Instr, instr}
 use Rattle.table.specs.TableLaws.{instr-low}
 use Rattle.table.proofs.read.read_records.Statement.{statement}
 use Rattle.table.proofs.read.read_records.Tie as tie
@@ -33,109 +34,126 @@ same-length c = long _ _ _ _ _ _ (c .before .before .before .loop .inv)
 
 returns : tie.Need-returns Inv-loop μ-loop
 returns c =
-    refuse _ _ _ _ _ _ (c .before .before .before .loop .inv) (c .before .before .loop-test .taken) 5
-    (record-unframed (instr _ _) _ (sym (c .before .frame-at .ensures) ∙ c .if1 .taken))
+    refuse _ _ _ _ _ _ (c .before .before .before .loop .inv) (c .before .before .loop-test .taken) (AtRecord 5)
+    (record-unframed (instr _ _) _ (sym (c .before .frame-at .ensures) ∙ c .if1 .taken)) refl refl (omega arith)
+    (c .before .before .before .loop .inv .inside)
 
 -- the record is there
-inside : (c : tie.Else1 Inv-loop μ-loop) → c .before .before .before .loop .at + (2 + c .before .frame-at .result)
-    ≤ length (c .before .before .before .before .before .before .before .args .table .now)
-inside c =
-    record-inside (instr (c .before .before .before .before .before .before .before .args .inputs)
-    (c .before .before .before .before .before .before .before .args .n))
-    (c .before .before .before .before .before .before .before .args .table .now)
-    (c .before .before .before .loop .at) (c .before .frame-at .result) (c .before .frame-at .ensures) (c .if1 .left)
+module _ (c : tie.Else1 Inv-loop μ-loop) where
+  abbrev s : List ℕ
+  s = c .before .before .before .before .before .before .before .args .table .now
 
-cut : (c : tie.Else1 Inv-loop μ-loop) → recordOf (instr (c .before .before .before .before .before .before .before .args .inputs)
-    (c .before .before .before .before .before .before .before .args .n))
-    (drop (c .before .before .before .loop .at) (c .before .before .before .before .before .before .before .args .table .now))
-    ≡ instr (c .before .before .before .before .before .before .before .args .inputs)
-    (c .before .before .before .before .before .before .before .args .n)
-    (take (c .before .before .before .loop .at + (2 + c .before .frame-at .result) - (c .before .before .before .loop .at + 2))
-    (drop (c .before .before .before .loop .at + 2) (c .before .before .before .before .before .before .before .args .table .now)))
-cut c =
-    record-cut (instr (c .before .before .before .before .before .before .before .args .inputs)
-    (c .before .before .before .before .before .before .before .args .n))
-    (c .before .before .before .before .before .before .before .args .table .now)
-    (c .before .before .before .loop .at) (c .before .frame-at .result) (c .before .frame-at .ensures) (c .if1 .left)
+  abbrev at : ℕ
+  at = c .before .before .before .loop .at
 
-add-body-reply : tie.Need-add-body-reply Inv-loop μ-loop
-add-body-reply c = omega (arith, inside c)
+  abbrev len : ℕ
+  len = c .before .frame-at .result
 
-add-body-reply-2 : tie.Need-add-body-reply-2 Inv-loop μ-loop
-add-body-reply-2 c = omega (arith, inside c)
+  abbrev one : List ℕ → Body Instr
+  one = instr (c .before .before .before .before .before .before .before .args .inputs)
+      (c .before .before .before .before .before .before .before .args .n)
 
-add-body-reply-3 : tie.Need-add-body-reply-3 Inv-loop μ-loop
-add-body-reply-3 c = omega (arith, inside c)
+  abbrev body : List ℕ
+  body = take (at + (2 + len) - (at + 2)) (drop (at + 2) s)
 
-sub-body-reply : tie.Need-sub-body-reply Inv-loop μ-loop
-sub-body-reply c = search needs
+  inside : at + (2 + len) ≤ length s
+  inside = record-inside one s at len (c .before .frame-at .ensures) (c .if1 .left)
 
-part-body-reply-start : tie.Need-part-body-reply-start Inv-loop μ-loop
-part-body-reply-start c = search needs
+  cut : recordOf one (drop at s) ≡ one body
+  cut = record-cut one s at len (c .before .frame-at .ensures) (c .if1 .left)
 
-part-body-reply-end : tie.Need-part-body-reply-end Inv-loop μ-loop
-part-body-reply-end c = omega (arith, inside c)
+  cut-all : length body ≡ len
+  cut-all = cut-length one s at len (c .before .frame-at .ensures) (c .if1 .left)
 
-body-reply-requires : tie.Need-body-reply-requires Inv-loop μ-loop
-body-reply-requires c κs =
-    cut-long (instr (c .before .before .before .before .before .before .before .before .args .inputs)
-    (c .before .before .before .before .before .before .before .before .args .n))
-    (c .before .before .before .before .before .before .before .before .args .table .now) (c .before .before .before .before .loop .at) _
-    (c .before .before .frame-at .ensures) (c .before .if1 .left)
+-- and what is wrong with it is so in the table
+points-inside : (c : tie.After-body-fault Inv-loop μ-loop)
+    → at (c .before .before) + c .body-fault .result .from ≤ length (s (c .before .before))
+points-inside c =
+    let r = c .before .before in
+    let points = fault-inside (length (body r)) (one r (body r)) (c .body-fault .result) (c .body-fault .ensures) in
+    omega (arith, inside r, cut-all r)
+
+add-body-fault : tie.Need-add-body-fault Inv-loop μ-loop
+add-body-fault c = omega (arith, inside c)
+
+add-body-fault-2 : tie.Need-add-body-fault-2 Inv-loop μ-loop
+add-body-fault-2 c = omega (arith, inside c)
+
+add-body-fault-3 : tie.Need-add-body-fault-3 Inv-loop μ-loop
+add-body-fault-3 c = omega (arith, inside c)
+
+sub-body-fault : tie.Need-sub-body-fault Inv-loop μ-loop
+sub-body-fault c = search needs
+
+part-body-fault-start : tie.Need-part-body-fault-start Inv-loop μ-loop
+part-body-fault-start c = search needs
+
+part-body-fault-end : tie.Need-part-body-fault-end Inv-loop μ-loop
+part-body-fault-end c = omega (arith, inside c)
+
+body-fault-requires : tie.Need-body-fault-requires Inv-loop μ-loop
+body-fault-requires c κs =
+    let r = c .before in cut-long (one r) (s r) (at r) (len r) (r .before .frame-at .ensures) (r .if1 .left)
+
+add-t17 : tie.Need-add-t17 Inv-loop μ-loop
+add-t17 c =
+    let r = c .before .before .before .before .before in
+    omega (arith, points-inside (c .before .before .before), r .before .before .before .before .before .before .before .pre .1)
 
 same-length-2 : tie.Need-same-length-2 Inv-loop μ-loop
-same-length-2 c = long _ _ _ _ _ _ (c .before .before .before .before .before .before .loop .inv)
+same-length-2 c = long _ _ _ _ _ _ (c .before .before .before .before .before .before .before .before .loop .inv)
 
 returns-2 : tie.Need-returns-2 Inv-loop μ-loop
 returns-2 c =
-    refuse _ _ _ _ _ _ (c .before .before .before .before .before .before .loop .inv)
-    (c .before .before .before .before .before .loop-test .taken) _ (cut (c .before .before .before)
-    ∙ reply-bad _ _ (c .before .body-reply .ensures) (c .if2 .taken))
+    let r = c .before .before .before .before .before in
+    let g = fault-bad _ _ _ (c .before .before .before .body-fault .ensures) (c .before .if2 .taken) in
+    refuse _ _ _ _ _ _ (r .before .before .before .loop .inv) (r .before .before .loop-test .taken) (g .0) (cut r ∙ g .1)
+    (cut-all r ∙ r .before .frame-at .ensures) (g .2) refl (points-inside (c .before .before .before))
 
 cast-offsets : tie.Need-cast-offsets Inv-loop μ-loop
 cast-offsets c =
     omega (
       arith,
-      c .before .before .before .before .before .before .loop .inv .inside,
-      c .before .before .before .before .before .before .before .before .before .before .pre .1,
+      c .before .before .before .before .before .before .before .loop .inv .inside,
+      c .before .before .before .before .before .before .before .before .before .before .before .pre .1,
     )
 
 mul-offsets : tie.Need-mul-offsets Inv-loop μ-loop
 mul-offsets c =
     omega (
       arith,
-      c .before .before .before .before .before .before .loop .inv .few,
-      c .before .before .before .before .before .before .before .before .before .before .pre .2,
-      c .before .before .before .before .before .before .before .before .before .before .good,
+      c .before .before .before .before .before .before .before .loop .inv .few,
+      c .before .before .before .before .before .before .before .before .before .before .before .pre .2,
+      c .before .before .before .before .before .before .before .before .before .before .before .good,
     )
 
 slice-write-offsets : tie.Need-slice-write-offsets Inv-loop μ-loop
 slice-write-offsets c =
     omega (
       arith,
-      long _ _ _ _ _ _ (c .before .before .before .before .before .before .loop .inv),
-      c .before .before .before .before .before .before .before .before .before .before .pre .2,
+      long _ _ _ _ _ _ (c .before .before .before .before .before .before .before .loop .inv),
+      c .before .before .before .before .before .before .before .before .before .before .before .pre .2,
     )
 
 add-at : tie.Need-add-at Inv-loop μ-loop
-add-at c = omega (arith, inside (c .before .before .before))
+add-at c = omega (arith, inside (c .before .before .before .before))
 
 add-at-2 : tie.Need-add-at-2 Inv-loop μ-loop
-add-at-2 c = omega (arith, inside (c .before .before .before))
+add-at-2 c = omega (arith, inside (c .before .before .before .before))
 
 add-k : tie.Need-add-k Inv-loop μ-loop
-add-k c = omega (arith, c .before .before .before .before .before .before .loop .inv .few)
+add-k c = omega (arith, c .before .before .before .before .before .before .before .loop .inv .few)
 
 loop-less : tie.Need-loop-less Inv-loop μ-loop
 loop-less c = omega arith
 
 loop-again : tie.Need-loop-again Inv-loop μ-loop
 loop-again c =
-    let g = reply-good _ _ (instr-low _ _ _) (c .before .body-reply .ensures) (c .if2 .left) in
-    on _ _ _ _ _ _ (c .before .before .before .before .before .before .loop .inv)
-    (c .before .before .before .before .before .loop-test .taken) (g .0) (cut (c .before .before .before) ∙ g .1)
-    (c .before .before .before .before .frame-at .result) (c .before .before .before .before .frame-at .ensures)
-    (inside (c .before .before .before))
+    let g = fault-good _ _ _ (instr-low _ _ _) (c .before .before .body-fault .ensures) (c .if2 .left) in
+    on _ _ _ _ _ _ (c .before .before .before .before .before .before .before .loop .inv)
+    (c .before .before .before .before .before .before .loop-test .taken) (g .0) (cut (c .before .before .before .before) ∙ g .1)
+    (c .before .before .before .before .before .frame-at .result) (c .before .before .before .before .before .frame-at .ensures)
+    (inside (c .before .before .before .before))
 
 same-length-3 : tie.Need-same-length-3 Inv-loop μ-loop
 same-length-3 c = long _ _ _ _ _ _ (c .before .before .loop .inv)
@@ -160,13 +178,14 @@ read-records-spec =
     frame-at-requires
     same-length
     returns
-    add-body-reply
-    add-body-reply-2
-    add-body-reply-3
-    sub-body-reply
-    part-body-reply-start
-    part-body-reply-end
-    body-reply-requires
+    add-body-fault
+    add-body-fault-2
+    add-body-fault-3
+    sub-body-fault
+    part-body-fault-start
+    part-body-fault-end
+    body-fault-requires
+    add-t17
     same-length-2
     returns-2
     cast-offsets

@@ -2,12 +2,12 @@
 use native.Mathlib.Omega.{arith}
 use borrow.Author.Needs.{needs}
 use Prim.Native.Nat.{ℕ, _+_, _-_, _≤_}
-use mathlib.Core.Path.{_≡_, sym, ap, _∙_}
+use mathlib.Core.Path.{_≡_, refl, sym, ap, _∙_}
 use mathlib.Core.List.{List}
 use lib.ListN.{length, take, drop}
-use Rattle.file.specs.File.{Body, Good, recordOf}
+use Rattle.file.specs.File.{AtRecord, Body, Good, recordOf}
 use Rattle.file.specs.Shown.{isGood}
-use Rattle.file.specs.FileLaws.{record-unframed, record-inside, cut-long, record-cut, reply-bad, reply-good}
+use Rattle.file.specs.FileLaws.{record-unframed, record-inside, cut-length, cut-long, record-cut, fault-bad, fault-inside, fault-good}
 use Rattle.file.specs.WalkLaws as Records
 use Rattle.trace.specs.Trace.{Stmt, stmt}
 use Rattle.trace.specs.TraceLaws.{stmt-low}
@@ -38,8 +38,9 @@ same-length c = Records.long _ _ _ _ _ _ (c .before .before .before .loop .inv .
 
 returns : tie.Need-returns Inv-loop μ-loop
 returns c =
-    Records.refuse _ _ _ _ _ _ (c .before .before .before .loop .inv .walk) (c .before .before .loop-test .taken) 5
-    (record-unframed (stmt _ _) _ (sym (c .before .frame-at .ensures) ∙ c .if1 .taken))
+    Records.refuse _ _ _ _ _ _ (c .before .before .before .loop .inv .walk) (c .before .before .loop-test .taken) (AtRecord 5)
+    (record-unframed (stmt _ _) _ (sym (c .before .frame-at .ensures) ∙ c .if1 .taken)) refl refl (omega arith)
+    (c .before .before .before .loop .inv .walk .inside)
 
 -- the record is there
 module _ (c : tie.Else1 Inv-loop μ-loop) where
@@ -62,113 +63,130 @@ module _ (c : tie.Else1 Inv-loop μ-loop) where
   inside : at + (2 + len) ≤ length s
   inside = record-inside one s at len (c .before .frame-at .ensures) (c .if1 .left)
 
-  cut : recordOf one (drop at s) ≡ one (take (at + (2 + len) - (at + 2)) (drop (at + 2) s))
+  abbrev body : List ℕ
+  body = take (at + (2 + len) - (at + 2)) (drop (at + 2) s)
+
+  cut : recordOf one (drop at s) ≡ one body
   cut = record-cut one s at len (c .before .frame-at .ensures) (c .if1 .left)
 
-add-body-reply : tie.Need-add-body-reply Inv-loop μ-loop
-add-body-reply c = omega (arith, inside c)
+  cut-all : length body ≡ len
+  cut-all = cut-length one s at len (c .before .frame-at .ensures) (c .if1 .left)
 
-add-body-reply-2 : tie.Need-add-body-reply-2 Inv-loop μ-loop
-add-body-reply-2 c = omega (arith, inside c)
+-- and what is wrong with it is so in the trace
+points-inside : (c : tie.After-body-fault Inv-loop μ-loop)
+    → at (c .before .before .before) + c .body-fault .result .from ≤ length (s (c .before .before .before))
+points-inside c =
+    let r = c .before .before .before in
+    let points = fault-inside (length (body r)) (one r (body r)) (c .body-fault .result) (c .body-fault .ensures) in
+    omega (arith, inside r, cut-all r)
 
-add-body-reply-3 : tie.Need-add-body-reply-3 Inv-loop μ-loop
-add-body-reply-3 c = omega (arith, inside c)
+add-body-fault : tie.Need-add-body-fault Inv-loop μ-loop
+add-body-fault c = omega (arith, inside c)
 
-sub-body-reply : tie.Need-sub-body-reply Inv-loop μ-loop
-sub-body-reply c = search needs
+add-body-fault-2 : tie.Need-add-body-fault-2 Inv-loop μ-loop
+add-body-fault-2 c = omega (arith, inside c)
 
-part-body-reply-start : tie.Need-part-body-reply-start Inv-loop μ-loop
-part-body-reply-start c = search needs
+add-body-fault-3 : tie.Need-add-body-fault-3 Inv-loop μ-loop
+add-body-fault-3 c = omega (arith, inside c)
 
-part-body-reply-end : tie.Need-part-body-reply-end Inv-loop μ-loop
-part-body-reply-end c = omega (arith, inside c)
+sub-body-fault : tie.Need-sub-body-fault Inv-loop μ-loop
+sub-body-fault c = search needs
 
-slice-aggregate-body-reply : tie.Need-slice-aggregate-body-reply Inv-loop μ-loop
+part-body-fault-start : tie.Need-part-body-fault-start Inv-loop μ-loop
+part-body-fault-start c = search needs
+
+part-body-fault-end : tie.Need-part-body-fault-end Inv-loop μ-loop
+part-body-fault-end c = omega (arith, inside c)
+
+slice-aggregate-body-fault : tie.Need-slice-aggregate-body-fault Inv-loop μ-loop
 unfolding symbolRoom
-slice-aggregate-body-reply c = sym (c .before .before .before .before .before .loop .inv .long)
+slice-aggregate-body-fault c = sym (c .before .before .before .before .before .loop .inv .long)
 
-body-reply-requires : tie.Need-body-reply-requires Inv-loop μ-loop
-body-reply-requires c κs =
+body-fault-requires : tie.Need-body-fault-requires Inv-loop μ-loop
+body-fault-requires c κs =
     let r = c .before .before in (
       cut-long (one r) (s r) (at r) (len r) (r .before .frame-at .ensures) (r .if1 .left),
       r .before .before .before .before .before .before .before .pre .2,
     )
 
+add-t22 : tie.Need-add-t22 Inv-loop μ-loop
+add-t22 c =
+    let r = c .before .before .before .before .before .before in
+    omega (arith, points-inside (c .before .before .before), r .before .before .before .before .before .before .before .pre .1)
+
 same-length-2 : tie.Need-same-length-2 Inv-loop μ-loop
-same-length-2 c = Records.long _ _ _ _ _ _ (c .before .before .before .before .before .before .before .loop .inv .walk)
+same-length-2 c = Records.long _ _ _ _ _ _ (c .before .before .before .before .before .before .before .before .before .loop .inv .walk)
 
 returns-2 : tie.Need-returns-2 Inv-loop μ-loop
 returns-2 c =
-    Records.refuse _ _ _ _ _ _ (c .before .before .before .before .before .before .before .loop .inv .walk)
-    (c .before .before .before .before .before .before .loop-test .taken) _ (cut (c .before .before .before .before)
-    ∙ reply-bad _ _ (c .before .body-reply .ensures) (c .if2 .taken))
+    let r = c .before .before .before .before .before .before in
+    let g = fault-bad _ _ _ (c .before .before .before .body-fault .ensures) (c .before .if2 .taken) in
+    Records.refuse _ _ _ _ _ _ (r .before .before .before .loop .inv .walk) (r .before .before .loop-test .taken) (g .0) (cut r ∙ g .1)
+    (cut-all r ∙ r .before .frame-at .ensures) (g .2) refl (points-inside (c .before .before .before))
 
 -- and holds a statement
 statement-there : (c : tie.Else2 Inv-loop μ-loop)
-    → (x : Stmt) × (recordOf (one (c .before .before .before .before))
-    (drop (at (c .before .before .before .before)) (s (c .before .before .before .before))) ≡ Good x)
-statement-there c = let g = reply-good _ _ (stmt-low _ _ _) (c .before .body-reply .ensures) (c .if2 .left) in
-    (g .0, cut (c .before .before .before .before) ∙ g .1)
+    → (x : Stmt) × (recordOf (one (c .before .before .before .before .before))
+    (drop (at (c .before .before .before .before .before)) (s (c .before .before .before .before .before))) ≡ Good x)
+statement-there c = let g = fault-good _ _ _ (stmt-low _ _ _) (c .before .before .body-fault .ensures) (c .if2 .left) in
+    (g .0, cut (c .before .before .before .before .before) ∙ g .1)
 
 cast-offsets : tie.Need-cast-offsets Inv-loop μ-loop
 cast-offsets c =
     omega (
       arith,
-      c .before .before .before .before .before .before .before .loop .inv .walk .inside,
-      c .before .before .before .before .before .before .before .before .before .before .before .pre .1,
+      c .before .before .before .before .before .before .before .before .loop .inv .walk .inside,
+      c .before .before .before .before .before .before .before .before .before .before .before .before .pre .1,
     )
 
 mul-offsets : tie.Need-mul-offsets Inv-loop μ-loop
 mul-offsets c =
     omega (
       arith,
-      c .before .before .before .before .before .before .before .loop .inv .walk .few,
-      c .before .before .before .before .before .before .before .before .before .before .before .pre .3,
-      c .before .before .before .before .before .before .before .before .before .before .before .good,
+      c .before .before .before .before .before .before .before .before .loop .inv .walk .few,
+      c .before .before .before .before .before .before .before .before .before .before .before .before .pre .3,
+      c .before .before .before .before .before .before .before .before .before .before .before .before .good,
     )
 
 slice-write-offsets : tie.Need-slice-write-offsets Inv-loop μ-loop
 slice-write-offsets c =
     omega (
       arith,
-      Records.long _ _ _ _ _ _ (c .before .before .before .before .before .before .before .loop .inv .walk),
-      c .before .before .before .before .before .before .before .before .before .before .before .pre .3,
+      Records.long _ _ _ _ _ _ (c .before .before .before .before .before .before .before .before .loop .inv .walk),
+      c .before .before .before .before .before .before .before .before .before .before .before .before .pre .3,
     )
 
 slice-aggregate-learn : tie.Need-slice-aggregate-learn Inv-loop μ-loop
 unfolding symbolRoom
-slice-aggregate-learn c = sym (c .before .before .before .before .before .before .before .before .loop .inv .long)
+slice-aggregate-learn c = sym (c .before .before .before .before .before .before .before .before .before .loop .inv .long)
 
 learn-requires : tie.Need-learn-requires Inv-loop μ-loop
 learn-requires c κs =
-    let i = c .before .before .before .before .before .before .before .before .loop .inv in (
-      omega (
-        arith,
-        i .walk .inside,
-        c .before .before .before .before .before .before .before .before .before .before .before .before .pre
-            .1,
-      ),
-      c .before .before .before .before .before .before .before .before .before .before .before .before .pre .2,
+    let r = c .before .before .before .before .before .before in
+    let start = r .before .before .before .before .before .before .before in
+    let i = r .before .before .before .loop .inv in (
+      omega (arith, i .walk .inside, start .pre .1),
+      start .pre .2,
       i .long,
       ap isGood
           (statement-there (c .before) .1),
     )
 
 add-at : tie.Need-add-at Inv-loop μ-loop
-add-at c = omega (arith, inside (c .before .before .before .before .before .before .before))
+add-at c = omega (arith, inside (c .before .before .before .before .before .before .before .before))
 
 add-at-2 : tie.Need-add-at-2 Inv-loop μ-loop
-add-at-2 c = omega (arith, inside (c .before .before .before .before .before .before .before))
+add-at-2 c = omega (arith, inside (c .before .before .before .before .before .before .before .before))
 
 add-k : tie.Need-add-k Inv-loop μ-loop
-add-k c = omega (arith, c .before .before .before .before .before .before .before .before .before .before .loop .inv .walk .few)
+add-k c = omega (arith, c .before .before .before .before .before .before .before .before .before .before .before .loop .inv .walk .few)
 
 loop-less : tie.Need-loop-less Inv-loop μ-loop
 loop-less c = omega arith
 
 loop-again : tie.Need-loop-again Inv-loop μ-loop
 loop-again c =
-    let r = c .before .before .before .before .before .before .before in
+    let r = c .before .before .before .before .before .before .before .before in
     let x = statement-there (c .before .before .before) in
     on _ _ _ _ _ (r .before .before .before .before .before .before .before .pre .2) (r .before .before .before .loop .inv)
     (r .before .before .loop-test .taken) (x .0) (x .1) (len r) (r .before .frame-at .ensures) (inside r) _
@@ -197,14 +215,15 @@ read-records-spec =
     frame-at-requires
     same-length
     returns
-    add-body-reply
-    add-body-reply-2
-    add-body-reply-3
-    sub-body-reply
-    part-body-reply-start
-    part-body-reply-end
-    slice-aggregate-body-reply
-    body-reply-requires
+    add-body-fault
+    add-body-fault-2
+    add-body-fault-3
+    sub-body-fault
+    part-body-fault-start
+    part-body-fault-end
+    slice-aggregate-body-fault
+    body-fault-requires
+    add-t22
     same-length-2
     returns-2
     cast-offsets
