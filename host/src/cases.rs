@@ -1,5 +1,6 @@
 //! Cases whose answers stand in document 01 or docs/SCRIPT.md, or follow from their sentences at a glance.
 
+pub mod breaking;
 pub mod judging;
 pub mod printing;
 pub mod running;
@@ -69,15 +70,15 @@ fn unknown_kind(kind: u8, fields: usize) -> (String, Vec<u8>) {
 }
 
 /// Expressions with a byte that is no token of a file with this symbol token, behind any number of words that an
-/// operator pops and before any operand.
-fn unknown_tokens(symbol: u8) -> impl Iterator<Item = (String, Vec<u8>)> {
+/// operator pops and before any operand; each with the offset of that byte.
+fn unknown_tokens(symbol: u8) -> impl Iterator<Item = (String, Vec<u8>, u32)> {
     let is_known = move |token| token == symbol || matches!(token, 0x01 | 0x10..=0x12 | 0x20..=0x2D | 0x30);
     let tokens = (0..=255).filter(move |&token| !is_known(token));
     let shapes = (0..=3).flat_map(|words| (0..=4).map(move |operands| (words, operands)));
     tokens.flat_map(move |token| shapes.clone().map(move |shape| unknown_token(token, shape)))
 }
 
-fn unknown_token(token: u8, (words, operands): (usize, usize)) -> (String, Vec<u8>) {
+fn unknown_token(token: u8, (words, operands): (usize, usize)) -> (String, Vec<u8>, u32) {
     let expression = [&CONSTANT_1.repeat(words)[..], &[token], &vec![0; operands]].concat();
-    (format!("token {token} behind {words} words, before {operands} bytes"), expression)
+    (format!("token {token} behind {words} words, before {operands} bytes"), expression, 5 * words as u32)
 }

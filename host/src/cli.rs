@@ -6,6 +6,7 @@ mod arguments;
 pub mod check;
 pub mod ending;
 mod expression;
+pub mod fault;
 mod graph;
 mod json;
 pub mod path;

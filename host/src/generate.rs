@@ -4,6 +4,7 @@ pub mod random;
 
 mod asked;
 mod author;
+mod broken;
 mod draft;
 mod expressions;
 mod far;

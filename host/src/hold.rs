@@ -9,6 +9,7 @@ use std::iter;
 
 use crate::answer::Answer;
 use crate::archive::ARCHIVE;
+use crate::broken::Way;
 use crate::case::Case;
 use crate::cases::Known;
 use crate::check::{first_failing, seeds, AnyCheck, Asked, Check};
@@ -59,6 +60,26 @@ pub fn hold_features<C: Case>(
         check,
         due.map(|(feature, least)| Hits { cases: shown.get(&feature).copied().unwrap_or(0), feature, least }),
     );
+}
+
+/// Of 100,000 generated cases so many have to break an expression in each way, at each token and in each record.
+const BROKEN_LEAST: u64 = 2;
+
+/// Asks of a check's cases that they show every way as `broken::shown` tells it, and tells the rarest place of each.
+pub fn hold_ways<C: Case>(
+    check: &Check<C>,
+    ways: impl Iterator<Item = Way>,
+    shown: fn(&C, C::Answer) -> Option<String>,
+) {
+    let mut cases = BTreeMap::new();
+    for shown in test_seeds(check.count).map(check.generate).filter_map(|case| shown(&case, case.model())) {
+        *cases.entry(shown).or_insert(0) += 1;
+    }
+    println!("{cases:#?}");
+    let hits =
+        |feature: String| Hits { cases: cases.get(&feature).copied().unwrap_or(0), feature, least: BROKEN_LEAST };
+    let rarest = ways.map(|way| way.shown().map(hits).min_by_key(|hits| hits.cases).expect("a place"));
+    hold_hits(check, rarest.map(|hits| Hits { feature: format!("reply 7, the rarest: {}", hits.feature), ..hits }));
 }
 
 /// How many cases show a feature, and how many of 100,000 have to.

@@ -4,6 +4,7 @@
 pub mod agreement;
 pub mod answer;
 pub mod archive;
+pub mod broken;
 pub mod case;
 pub mod cases;
 pub mod check;

@@ -3,6 +3,8 @@
 use crate::encoding::{self, Form};
 use crate::statement;
 
+const HEADER_LENGTH: usize = 6;
+
 #[derive(Clone)]
 pub struct Parts {
     version: u8,
@@ -21,7 +23,7 @@ impl Parts {
         let &[version, high, low, inputs, count_high, count_low] = file.first_chunk()?;
         let length = u16::from_be_bytes([high, low]);
         let count = u16::from_be_bytes([count_high, count_low]);
-        let (records, rest) = split_records(&file[6..], count.into());
+        let (records, rest) = split_records(&file[HEADER_LENGTH..], count.into());
         Some(Parts {
             version,
             inputs,
@@ -30,6 +32,19 @@ impl Parts {
             records,
             rest,
         })
+    }
+
+    /// The number and the first byte of the record that has the byte at an offset, or is due there.
+    pub fn record_at(&self, offset: usize) -> (usize, usize) {
+        let mut start = HEADER_LENGTH;
+        for (number, record) in self.records.iter().enumerate() {
+            let end = start + 2 + record.len();
+            if offset < end {
+                return (number, start);
+            }
+            start = end;
+        }
+        (self.records.len(), start)
     }
 
     pub fn join(&self) -> Vec<u8> {
@@ -77,7 +92,7 @@ pub fn has_opening(trace: &[u8]) -> bool {
 /// A table whose jumps to themselves go on to what follows them instead.
 pub fn without_self_jumps(table: &[u8]) -> Vec<u8> {
     let mut table = table.to_vec();
-    let mut offset = 6;
+    let mut offset = HEADER_LENGTH;
     for i in 0..u16::MAX {
         let Some([high, low, kind, target @ ..]) = table.get_mut(offset..offset + 5) else {
             break;

@@ -6,6 +6,7 @@ use std::process::Command;
 use std::str;
 
 use host::archive::{Calls, ARCHIVE};
+use host::broken::shown;
 use host::check::{first_failing, seeds, AnyCheck};
 use host::checks;
 use host::parts::{as_old_trace, without_self_jumps, Parts};
@@ -178,6 +179,96 @@ fn an_expression_refused_for_an_assigned_symbol_is_noticed() {
         }
     }
     is_noticed_by(&checks::JUDGE, "reply 7 given for 6", &Liar);
+}
+
+/// Gives another offset for refusal 7, from the file and the right one.
+struct PointsElsewhere(fn(&[u8], u32) -> u32);
+
+impl PointsElsewhere {
+    fn offset(&self, file: &[u8], reply: u32, offset: u32) -> u32 {
+        if reply == 7 {
+            return (self.0)(file, offset);
+        }
+        offset
+    }
+}
+
+impl Calls for PointsElsewhere {
+    fn run_offset(&self, table: &[u8], bound: u64, valuation: &[u8]) -> u32 {
+        let reply = ARCHIVE.run_reply(table, bound, valuation);
+        self.offset(table, reply, ARCHIVE.run_offset(table, bound, valuation))
+    }
+
+    fn judge_offset(&self, trace: &[u8], valuation: &[u8]) -> u32 {
+        self.offset(trace, ARCHIVE.judge_reply(trace, valuation), ARCHIVE.judge_offset(trace, valuation))
+    }
+
+    fn trace_offset(&self, table: &[u8], bound: u64, out: &mut [u8]) -> u32 {
+        self.offset(table, ARCHIVE.trace_reply(table, bound, &mut []), ARCHIVE.trace_offset(table, bound, out))
+    }
+
+    fn slice_offset(&self, trace: &[u8], out: &mut [u8]) -> u32 {
+        self.offset(trace, ARCHIVE.slice_reply(trace, &mut []), ARCHIVE.slice_offset(trace, out))
+    }
+
+    fn script_offset(&self, trace: &[u8], out: &mut [u8]) -> u32 {
+        self.offset(trace, ARCHIVE.script_reply(trace, &mut []), ARCHIVE.script_offset(trace, out))
+    }
+
+    fn print(&self, input: &[u8]) -> Printed {
+        let printed = ARCHIVE.print(input);
+        let text = String::from_utf8_lossy(&printed.text);
+        match text.strip_prefix("refused 7 at ").map(|offset| offset.trim_end().parse()) {
+            Some(Ok(offset)) => Printed::just(format!("refused 7 at {}\n", (self.0)(&input[1..], offset))),
+            _ => printed,
+        }
+    }
+}
+
+fn is_noticed_by_every_reader(fault: &str, offset: fn(&[u8], u32) -> u32) {
+    let liar = PointsElsewhere(offset);
+    let checks: [&dyn AnyCheck; 6] =
+        [&checks::RUN, &checks::JUDGE, &checks::TRACE, &checks::SLICE, &checks::SCRIPT, &checks::PRINT];
+    for check in checks {
+        is_noticed_by(check, fault, &liar);
+    }
+}
+
+#[test]
+fn a_records_first_byte_given_for_its_broken_token_is_noticed() {
+    is_noticed_by_every_reader("7 at the record's first byte", |file, offset| record(file, offset).0);
+}
+
+#[test]
+fn an_expressions_end_given_for_its_broken_token_is_noticed() {
+    is_noticed_by_every_reader("7 at the record's end", |file, offset| record(file, offset).1);
+}
+
+#[test]
+fn a_token_without_all_its_bytes_refused_at_the_records_end_is_noticed() {
+    is_noticed_by_every_reader("missing bytes at the record's end", |file, offset| {
+        let is_cut = shown(file, offset).contains("without all its bytes");
+        if is_cut {
+            record(file, offset).1
+        } else {
+            offset
+        }
+    });
+}
+
+#[test]
+fn words_left_refused_at_the_last_token_is_noticed() {
+    is_noticed_by_every_reader("words left at the last byte", |file, offset| {
+        let is_at_end = shown(file, offset).contains("words left");
+        offset - u32::from(is_at_end)
+    });
+}
+
+/// The first byte and the end of the record whose expression is refused at an offset.
+fn record(file: &[u8], offset: u32) -> (u32, u32) {
+    let parts = Parts::of(file).expect("a header");
+    let (number, start) = parts.record_at(offset as usize - 1);
+    (start as u32, (start + 2 + parts.records[number].len()) as u32)
 }
 
 #[test]

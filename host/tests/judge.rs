@@ -1,10 +1,11 @@
 //! Judging a trace: document 01's cases, and the archive against the model on generated ones.
 
+use host::broken::{self, shown};
 use host::case::{Case, JudgeCase};
 use host::cases::judging as cases;
 use host::checks;
 use host::encoding;
-use host::hold::{hold, hold_features, hold_known};
+use host::hold::{hold, hold_features, hold_known, hold_ways};
 use host::model::{self, JudgeAnswer};
 use host::parts::Parts;
 use host::verdict::{self, CUT, STOPPED, UNSAFE};
@@ -117,8 +118,24 @@ fn every_unknown_token_is_refused_7_by_the_archive() {
 }
 
 #[test]
+fn the_model_points_at_the_first_token_against_the_rules_or_at_the_expressions_end() {
+    hold_known(JudgeCase::model, cases::broken_expressions());
+}
+
+#[test]
+fn the_archive_points_at_the_first_token_against_the_rules_or_at_the_expressions_end() {
+    hold_known(JudgeCase::archive, cases::broken_expressions());
+}
+
+#[test]
 fn the_generated_cases_reach_every_reply_every_verdict_of_each_version_and_what_they_hide() {
     hold_features(&checks::JUDGE, features, &REPLIES, &DUE);
+}
+
+#[test]
+fn the_generated_cases_break_expressions_in_every_way_at_every_token_and_in_every_record() {
+    let shown = |case: &JudgeCase, answer: JudgeAnswer| (answer.reply == 7).then(|| shown(&case.trace, answer.offset));
+    hold_ways(&checks::JUDGE, broken::in_traces(), shown);
 }
 
 #[test]
@@ -147,7 +164,7 @@ fn refused_features(case: &JudgeCase, reply: u32, offset: u32) -> Vec<String> {
     let of_kind =
         kinds.into_iter().find(|unknown| reply == 5 && Some(unknown) == kind.map(|kind| (version, *kind)).as_ref());
     let of_kind = of_kind.map(|(version, kind)| format!("reply 5, kind {kind} under version {version}"));
-    let behind = is_unsafe_before(case, offset).then(|| format!("reply {reply}, a false Assert before"));
+    let behind = is_unsafe_before(case, reply, offset).then(|| format!("reply {reply}, a false Assert before"));
     of_kind.into_iter().chain(behind).collect()
 }
 
@@ -185,15 +202,12 @@ fn has_false(case: &JudgeCase, kind: u8) -> bool {
     is_unsafe(case, &statements)
 }
 
-/// Whether the statements before an offset have a false Assert.
-fn is_unsafe_before(case: &JudgeCase, offset: u32) -> bool {
-    let mut end = 6;
-    let mut statements = statements(case);
-    statements.retain(|statement| {
-        end += 2 + statement.len();
-        end <= offset as usize
-    });
-    is_unsafe(case, &statements)
+/// Whether the statements before the refused one have a false Assert.
+fn is_unsafe_before(case: &JudgeCase, reply: u32, offset: u32) -> bool {
+    let parts = Parts::of(&case.trace).expect("a whole header");
+    // 7 points into its statement, or at its end.
+    let (number, _) = parts.record_at(offset as usize - usize::from(reply == 7));
+    is_unsafe(case, &parts.records[..number])
 }
 
 fn statements(case: &JudgeCase) -> Vec<Vec<u8>> {

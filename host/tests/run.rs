@@ -1,9 +1,10 @@
 //! Running a table: document 01's cases, and the archive against the model on generated ones.
 
+use host::broken::{self, shown};
 use host::case::{Case, RunCase};
 use host::cases::running as cases;
 use host::checks;
-use host::hold::{hold, hold_features, hold_known};
+use host::hold::{hold, hold_features, hold_known, hold_ways};
 use host::model::{self, RunAnswer};
 use host::parts::without_self_jumps;
 use host::verdict;
@@ -110,6 +111,16 @@ fn every_unknown_token_is_refused_7_by_the_archive() {
 }
 
 #[test]
+fn the_model_points_at_the_first_token_against_the_rules_or_at_the_expressions_end() {
+    hold_known(RunCase::model, cases::broken_expressions());
+}
+
+#[test]
+fn the_archive_points_at_the_first_token_against_the_rules_or_at_the_expressions_end() {
+    hold_known(RunCase::archive, cases::broken_expressions());
+}
+
+#[test]
 fn a_table_of_1024_asserts_has_5126_bytes() {
     assert_eq!(cases::thousand_asserts().len(), 5126);
 }
@@ -117,6 +128,12 @@ fn a_table_of_1024_asserts_has_5126_bytes() {
 #[test]
 fn the_generated_cases_reach_every_reply_every_verdict_and_later_copies() {
     hold_features(&checks::RUN, features, &REPLIES, &DUE);
+}
+
+#[test]
+fn the_generated_cases_break_expressions_in_every_way_at_every_token_and_in_every_record() {
+    let shown = |case: &RunCase, answer: RunAnswer| (answer.reply == 7).then(|| shown(&case.table, answer.offset));
+    hold_ways(&checks::RUN, broken::in_tables(), shown);
 }
 
 #[test]

@@ -1,6 +1,7 @@
-//! Judging a trace: document 01's marked cases, limits, sentences and refusals, in both versions; request 2026-01's verdicts.
+//! Judging a trace: document 01's marked cases, limits, sentences and refusals, in both versions; request 2026-01's
+//! verdicts and request 2026-08's offsets.
 
-use super::{contrary, marked_operators, ones, traces, Known, CONSTANT_0, CONSTANT_1};
+use super::{breaking, contrary, marked_operators, ones, traces, Known, CONSTANT_0, CONSTANT_1};
 use crate::case::JudgeCase;
 use crate::encoding::{self, Form};
 use crate::model::JudgeAnswer;
@@ -14,10 +15,8 @@ const NOT: u8 = 0x10;
 const NEG: u8 = 0x11;
 
 pub fn all() -> Vec<KnownJudgement> {
-    [marked(), limits(), judgements(), bounds(), refusals(), unknown_kinds(), unknown_tokens()]
-        .into_iter()
-        .flatten()
-        .collect()
+    let refused = [refusals(), unknown_kinds(), unknown_tokens(), broken_expressions()];
+    [marked(), limits(), judgements(), bounds()].into_iter().chain(refused).flatten().collect()
 }
 
 /// The marked cases that concern judging.
@@ -66,7 +65,7 @@ pub fn limits() -> Vec<KnownJudgement> {
         known("S=64", inputs(64), [0; 4 * 64], ended()),
         known("S=65", inputs(65), [0; 4 * 65], refused(4, 0)),
         known("17 words of depth", deep(17), [], ended()),
-        known("18 words of depth", deep(18), [], refused(7, 6)),
+        known("18 words of depth", deep(18), [], refused(7, 96)),
         known("S=0, symbol 4,095", assigned(0, 4095), [], ended()),
         known("S=0, symbol 4,096", assigned(0, 4096), [], refused(6, 6)),
         known("S=64, symbol 63", assigned(64, 63), [0; 4 * 64], refused(6, 6)),
@@ -136,7 +135,7 @@ pub fn bounds() -> Vec<KnownJudgement> {
         old("a bound", &[bound(1, holds)], refused(5, 6)),
         old("a bound without an expression: 5 before 7", &[bound(1, &[])], refused(5, 6)),
         old("a bound behind a false Assert", &[assert(1, fails), bound(2, holds)], refused(5, 16)),
-        old("a bound behind a 7", &[assert(1, &[]), bound(2, holds)], refused(7, 6)),
+        old("a bound behind a 7", &[assert(1, &[]), bound(2, holds)], refused(7, 11)),
         under_x("the small rule's trace called version 129", as_called_129(&traces::SMALL_RULE_0), 0, refused(5, 80)),
     ]);
     known
@@ -169,36 +168,36 @@ pub fn refusals() -> Vec<KnownJudgement> {
         judge("half a place", &[vec![3, 0]], refused(5, 6)),
         judge("a bound without its place", &[vec![4]], refused(5, 6)),
         judge("half a place of a bound", &[vec![4, 0]], refused(5, 6)),
-        judge("7 alone: a bound", &[vec![4, 0, 0]], refused(7, 6)),
+        judge("7 alone: a bound", &[vec![4, 0, 0]], refused(7, 11)),
         judge("Assign without its symbol", &[vec![1, 0, 0]], refused(5, 6)),
         judge("half a symbol", &[vec![1, 0, 0, 0]], refused(5, 6)),
         judge("6 before 7: symbol S + 4,096", &[assign(1, 4096, &[])], refused(6, 6)),
-        judge("7 alone: symbol S + 4,095", &[assign(1, 4095, &[])], refused(7, 6)),
+        judge("7 alone: symbol S + 4,095", &[assign(1, 4095, &[])], refused(7, 13)),
         under_x("6 before 7: symbol S - 1", encoding::trace(1, &[assign(1, 0, &[])]), 0, refused(6, 6)),
-        under_x("7 alone: symbol S", encoding::trace(1, &[assign(1, 1, &[])]), 0, refused(7, 6)),
+        under_x("7 alone: symbol S", encoding::trace(1, &[assign(1, 1, &[])]), 0, refused(7, 13)),
         judge("6 before 7: a symbol again", &[assign(1, 5, fails), assign(2, 5, &[])], refused(6, 18)),
         judge("6 before 7: a symbol below", &[assign(1, 5, fails), assign(2, 4, &[])], refused(6, 18)),
-        judge("7 alone: a symbol above", &[assign(1, 5, fails), assign(2, 6, &[])], refused(7, 18)),
-        judge("reading its own symbol", &[assign(1, 5, &read(5))], refused(7, 6)),
-        judge("reading a skipped symbol", &[assign(1, 5, fails), assume(2, &read(4))], refused(7, 18)),
-        judge("reading a later symbol", &[assume(1, &read(5)), assign(2, 5, fails)], refused(7, 6)),
-        under_x("reading symbol S", encoding::trace(1, &[assume(1, &read(1))]), 0, refused(7, 6)),
-        judge("reading symbol S + 4,096", &[assume(1, &read(4096))], refused(7, 6)),
-        judge("reading symbol 65535", &[assume(1, &read(65535))], refused(7, 6)),
-        under_x("a table's symbol", encoding::trace(1, &[assume(1, &[2, 0])]), 0, refused(7, 6)),
-        judge("7 before a later 5", &[assume(1, &[]), vec![9]], refused(7, 6)),
-        judge("7 before a later 6", &[assume(1, &[]), assign(2, 4096, &[])], refused(7, 6)),
-        bytes("7 before spare bytes", &[130, 0, 12, 0, 0, 1, 0, 3, 3, 0, 0, 0], refused(7, 6)),
+        judge("7 alone: a symbol above", &[assign(1, 5, fails), assign(2, 6, &[])], refused(7, 25)),
+        judge("reading its own symbol", &[assign(1, 5, &read(5))], refused(7, 13)),
+        judge("reading a skipped symbol", &[assign(1, 5, fails), assume(2, &read(4))], refused(7, 23)),
+        judge("reading a later symbol", &[assume(1, &read(5)), assign(2, 5, fails)], refused(7, 11)),
+        under_x("reading symbol S", encoding::trace(1, &[assume(1, &read(1))]), 0, refused(7, 11)),
+        judge("reading symbol S + 4,096", &[assume(1, &read(4096))], refused(7, 11)),
+        judge("reading symbol 65535", &[assume(1, &read(65535))], refused(7, 11)),
+        under_x("a table's symbol", encoding::trace(1, &[assume(1, &[2, 0])]), 0, refused(7, 11)),
+        judge("7 before a later 5", &[assume(1, &[]), vec![9]], refused(7, 11)),
+        judge("7 before a later 6", &[assume(1, &[]), assign(2, 4096, &[])], refused(7, 11)),
+        bytes("7 before spare bytes", &[130, 0, 12, 0, 0, 1, 0, 3, 3, 0, 0, 0], refused(7, 11)),
         judge("5 behind a false Assert", &[assert(1, fails), vec![9]], refused(5, 16)),
         judge("6 behind a false Assert", &[assert(1, fails), assign(2, 4096, fails)], refused(6, 16)),
-        judge("7 behind a false Assert", &[assert(1, fails), assume(2, &[])], refused(7, 16)),
-        judge("7 behind a false Assume", &[assume(1, fails), assume(2, &[])], refused(7, 16)),
+        judge("7 behind a false Assert", &[assert(1, fails), assume(2, &[])], refused(7, 21)),
+        judge("7 behind a false Assume", &[assume(1, fails), assume(2, &[])], refused(7, 21)),
         bytes(
             "spare byte behind a false Assert",
             &[130, 0, 17, 0, 0, 1, 0, 8, 3, 0, 1, 1, 0, 0, 0, 0, 0],
             refused(5, 16),
         ),
-        known("7 before 11", encoding::trace(1, &[assume(1, &[])]), [], refused(7, 6)),
+        known("7 before 11", encoding::trace(1, &[assume(1, &[])]), [], refused(7, 11)),
         known("11 before a false Assert", encoding::trace(0, &[assert(1, fails)]), [0], refused(11, 0)),
         known("no valuation", traces::EXAMPLE, [], refused(11, 0)),
         known("S bytes of valuation", traces::EXAMPLE, [0; 1], refused(11, 0)),
@@ -216,14 +215,19 @@ pub fn unknown_kinds() -> Vec<KnownJudgement> {
 
 /// Tokens that no trace has.
 pub fn unknown_tokens() -> Vec<KnownJudgement> {
-    in_both_versions(
-        super::unknown_tokens(0x03).map(|(name, test)| judge(&name, &[assert(1, &test)], refused(7, 6))).collect(),
-    )
+    let tokens = super::unknown_tokens(0x03);
+    in_both_versions(tokens.map(|(name, test, at)| judge(&name, &[assert(1, &test)], refused(7, 11 + at))).collect())
+}
+
+/// Expressions that break their rules, at the first token that does or at their end.
+pub fn broken_expressions() -> Vec<KnownJudgement> {
+    let traces = breaking::traces();
+    in_both_versions(traces.iter().map(|(name, trace, at)| bytes(name, trace, refused(7, *at))).collect())
 }
 
 /// The traces that are refused, whoever reads them, each with its reply and offset.
 pub fn refused_traces() -> impl Iterator<Item = (String, Vec<u8>, (u32, u32))> {
-    let known = [refusals(), bounds(), unknown_kinds(), unknown_tokens()].into_iter().flatten();
+    let known = [refusals(), bounds(), unknown_kinds(), unknown_tokens(), broken_expressions()].into_iter().flatten();
     let of_trace = known.filter(|known| (1..=7).contains(&known.answer.reply));
     of_trace.map(|Known { name, case, answer }| (name, case.trace, (answer.reply, answer.offset)))
 }

@@ -126,7 +126,8 @@ pub fn refusals() -> Vec<KnownText> {
         refused("1,024 Asserts, K=2", 2, &running::thousand_asserts(), (9, 0)),
         refused("1,024 Asserts, K=255", 255, &running::thousand_asserts(), (9, 0)),
     ];
-    let of_table = running::refusals().into_iter().filter(|known| (1..=7).contains(&known.answer.reply));
+    let runs = [running::refusals(), running::broken_expressions()];
+    let of_table = runs.into_iter().flatten().filter(|known| (1..=7).contains(&known.answer.reply));
     known.extend(of_table.map(|Known { name, case, answer }| {
         // A bound that no byte holds comes behind a table's own refusal.
         let bound = case.bound.min(255) as u8;
@@ -151,7 +152,7 @@ pub fn longest_tables() -> Vec<KnownText> {
         read("length wrong", length_wrong, (3, 0)),
         read("version wrong", version_wrong, (2, 0)),
         read("no record, all spare", mended(&[&[1, 0, 0, 0, 0, 0], &[0; 65_529][..]].concat()), (5, 6)),
-        read("a trace's symbol at great length", encoding::table(1, &[vec![3; 65_527]]), (7, 6)),
+        read("a trace's symbol at great length", encoding::table(1, &[vec![3; 65_527]]), (7, 9)),
         read("target n + 1", encoding::table(0, &[[&[4, 0, 2], &long_record(65_525)[1..]].concat()]), (6, 6)),
         read("a last record of an unknown kind", encoding::table(0, &[long_record(65_524), vec![9]]), (5, 65_532)),
         read("the last byte spare", spare, (5, 65_534)),

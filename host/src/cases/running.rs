@@ -1,6 +1,7 @@
-//! Running a table: document 01's marked cases, limits, sentences and refusals, with request 2026-01's verdicts.
+//! Running a table: document 01's marked cases, limits, sentences and refusals, with request 2026-01's verdicts and
+//! request 2026-08's offsets.
 
-use super::{contrary, marked_operators, ones, Known};
+use super::{breaking, contrary, marked_operators, ones, Known};
 use crate::case::RunCase;
 use crate::encoding;
 use crate::model::RunAnswer;
@@ -28,7 +29,10 @@ pub fn thousand_asserts() -> Vec<u8> {
 }
 
 pub fn all() -> Vec<KnownRun> {
-    [marked(), limits(), runs(), refusals(), unknown_kinds(), unknown_tokens()].into_iter().flatten().collect()
+    [marked(), limits(), runs(), refusals(), unknown_kinds(), unknown_tokens(), broken_expressions()]
+        .into_iter()
+        .flatten()
+        .collect()
 }
 
 /// The marked cases that concern running.
@@ -61,7 +65,7 @@ pub fn limits() -> Vec<KnownRun> {
         small_rule("K=256", 0, 256, refused(8, 0)),
         small_rule("K=2^32", 0, 1 << 32, refused(8, 0)),
         known("16 words of depth", deep(16), 0, [], ended(0)),
-        known("17 words of depth", deep(17), 0, [], refused(7, 6)),
+        known("17 words of depth", deep(17), 0, [], refused(7, 89)),
     ]
 }
 
@@ -107,13 +111,13 @@ pub fn refusals() -> Vec<KnownRun> {
         read("spare byte", &[1, 0, 7, 0, 0, 0, 0], refused(5, 6)),
         read("6 before 7: symbol S", &[1, 0, 10, 1, 0, 1, 0, 2, 1, 1], refused(6, 6)),
         read("6 before 7: target n + 1", &[1, 0, 11, 0, 0, 1, 0, 3, 4, 0, 2], refused(6, 6)),
-        read("7 alone: symbol S - 1", &[1, 0, 10, 1, 0, 1, 0, 2, 1, 0], refused(7, 6)),
-        read("7 alone: target n", &[1, 0, 11, 0, 0, 1, 0, 3, 4, 0, 1], refused(7, 6)),
-        read("7 before a later 5", &[1, 0, 12, 0, 0, 2, 0, 1, 3, 0, 1, 9], refused(7, 6)),
-        read("7 before spare bytes", &[1, 0, 10, 0, 0, 1, 0, 1, 3, 0], refused(7, 6)),
-        read("7 in the second record", &[1, 0, 15, 1, 0, 2, 0, 4, 3, 2, 0, 16, 0, 1, 3], refused(7, 12)),
-        read("a trace's symbol", &[1, 0, 12, 1, 0, 1, 0, 4, 3, 3, 0, 0], refused(7, 6)),
-        known("7 before 8 and 11", [1, 0, 9, 1, 0, 1, 0, 1, 3], 256, [], refused(7, 6)),
+        read("7 alone: symbol S - 1", &[1, 0, 10, 1, 0, 1, 0, 2, 1, 0], refused(7, 10)),
+        read("7 alone: target n", &[1, 0, 11, 0, 0, 1, 0, 3, 4, 0, 1], refused(7, 11)),
+        read("7 before a later 5", &[1, 0, 12, 0, 0, 2, 0, 1, 3, 0, 1, 9], refused(7, 9)),
+        read("7 before spare bytes", &[1, 0, 10, 0, 0, 1, 0, 1, 3, 0], refused(7, 9)),
+        read("7 in the second record", &[1, 0, 15, 1, 0, 2, 0, 4, 3, 2, 0, 16, 0, 1, 3], refused(7, 15)),
+        read("a trace's symbol", &[1, 0, 12, 1, 0, 1, 0, 4, 3, 3, 0, 0], refused(7, 9)),
+        known("7 before 8 and 11", [1, 0, 9, 1, 0, 1, 0, 1, 3], 256, [], refused(7, 9)),
         known("8 before 11", SMALL_RULE, 256, [], refused(8, 0)),
         known("no valuation", SMALL_RULE, 0, [], refused(11, 0)),
         known("S bytes of valuation", SMALL_RULE, 0, [0; 1], refused(11, 0)),
@@ -129,7 +133,13 @@ pub fn unknown_kinds() -> Vec<KnownRun> {
 
 /// Tokens that no table has.
 pub fn unknown_tokens() -> Vec<KnownRun> {
-    super::unknown_tokens(0x02).map(|(name, test)| run(&name, &[&assert(&test)], 0, refused(7, 6))).collect()
+    let tokens = super::unknown_tokens(0x02);
+    tokens.map(|(name, test, at)| run(&name, &[&assert(&test)], 0, refused(7, 9 + at))).collect()
+}
+
+/// Expressions that break their rules, at the first token that does or at their end.
+pub fn broken_expressions() -> Vec<KnownRun> {
+    breaking::tables().iter().map(|(name, table, at)| read(name, table, refused(7, *at))).collect()
 }
 
 fn small_rule(name: &str, x: u32, bound: u64, answer: RunAnswer) -> KnownRun {

@@ -223,7 +223,7 @@ pub fn rooms() -> Vec<KnownScript> {
         enough("the exact room", length),
         enough("a byte more room", length + 1),
         enough("the room that always does", SCRIPT_ROOM),
-        refused_with("7 before 10", &encoding::trace(0, &[assume(1, &[])]), 0, (7, 6)),
+        refused_with("7 before 10", &encoding::trace(0, &[assume(1, &[])]), 0, (7, 11)),
     ])
 }
 

@@ -204,7 +204,7 @@ pub fn rooms() -> Vec<KnownSlice> {
         enough("a byte more room", 103),
         enough("more room than a slice can take", 100_000),
         refused_with("a slice of no statement needs 6 bytes", &traces::NO_INSTRUCTIONS, 5, (10, 0)),
-        refused_with("7 before 10", &encoding::trace(0, &[assume(1, &[])]), 0, (7, 6)),
+        refused_with("7 before 10", &encoding::trace(0, &[assume(1, &[])]), 0, (7, 11)),
     ])
 }
 

@@ -201,7 +201,7 @@ pub fn rooms() -> Vec<KnownTrace> {
         enough("the exact room", 156),
         enough("a byte more room", 157),
         enough("more room than a trace can take", 100_000),
-        refused_with("7 before 8, 9 and 10", &[1, 0, 9, 1, 0, 1, 0, 1, 3], 256, 0, (7, 6)),
+        refused_with("7 before 8, 9 and 10", &[1, 0, 9, 1, 0, 1, 0, 1, 3], 256, 0, (7, 9)),
         refused_with("8 before 9 and 10", thousand, 256, 0, (8, 0)),
         refused_with("9 before 10", thousand, 2, 0, (9, 0)),
         refused_with("10 alone", thousand, 1, 47_171, (10, 0)),
@@ -211,7 +211,8 @@ pub fn rooms() -> Vec<KnownTrace> {
 
 /// What running refuses for its table or its bound, writing the trace refuses too.
 pub fn refusals() -> Vec<KnownTrace> {
-    let runs = [running::refusals(), running::unknown_kinds(), running::unknown_tokens()];
+    let runs =
+        [running::refusals(), running::unknown_kinds(), running::unknown_tokens(), running::broken_expressions()];
     let of_table = runs.into_iter().flatten().filter(|known| (1..=8).contains(&known.answer.reply));
     of_table
         .map(|Known { name, case, answer }| refused(&name, &case.table, case.bound, (answer.reply, answer.offset)))

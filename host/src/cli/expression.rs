@@ -14,19 +14,31 @@ pub enum Token {
 }
 
 impl Token {
-    /// The token at the start of some bytes, and how many of them it takes.
-    fn read(form: Form, bytes: &[u8]) -> Option<(Token, usize)> {
-        match (form, bytes) {
-            (_, &[1, a, b, c, d, ..]) => Some((Token::Constant(u32::from_be_bytes([a, b, c, d])), 5)),
-            (Form::Table, &[2, symbol, ..]) => Some((Token::Symbol(symbol.into()), 2)),
-            (Form::Trace | Form::OldTrace, &[3, a, b, ..]) => Some((Token::Symbol(u16::from_be_bytes([a, b])), 3)),
-            (_, &[code, ..]) if operator_name(code).is_some() => Some((Token::Operator(code), 1)),
-            _ => None,
+    /// How many bytes the token has that begins with this one; nothing where there is no such token.
+    pub fn size(form: Form, first: u8) -> Option<usize> {
+        match (form, first) {
+            (_, 1) => Some(5),
+            (Form::Table, 2) => Some(2),
+            (Form::Trace | Form::OldTrace, 3) => Some(3),
+            (_, code) => operator_name(code).map(|_| 1),
         }
     }
 
+    /// The token at the start of some bytes, and how many of them it takes.
+    pub fn read(form: Form, bytes: &[u8]) -> Option<(Token, usize)> {
+        let size = Token::size(form, *bytes.first()?)?;
+        let token = match *bytes.get(..size)? {
+            [_, a, b, c, d] => Token::Constant(u32::from_be_bytes([a, b, c, d])),
+            [_, symbol] => Token::Symbol(symbol.into()),
+            [_, high, low] => Token::Symbol(u16::from_be_bytes([high, low])),
+            [code, ..] => Token::Operator(code),
+            [] => return None,
+        };
+        Some((token, size))
+    }
+
     /// How many words it takes from the stack.
-    fn pops(self) -> usize {
+    pub fn pops(self) -> usize {
         match self {
             Token::Constant(_) | Token::Symbol(_) => 0,
             Token::Operator(code) => usize::from(code >> 4),
@@ -137,35 +149,6 @@ fn sign(code: u8) -> &'static str {
         0x2C => " <s ",
         0x2D => " <= ",
         _ => " ? ",
-    }
-}
-
-/// Why a table's expression is refused 7, in words; nothing where no reason is seen.
-pub fn fault(expression: &[u8], inputs: usize) -> Option<String> {
-    let (tokens, rest) = tokens(Form::Table, expression);
-    let limit = Form::Table.depth_limit();
-    let mut held = 0;
-    for token in &tokens {
-        let (name, pops) = (token.name(), token.pops());
-        match token {
-            Token::Symbol(symbol) if usize::from(*symbol) >= inputs => {
-                return Some(format!("its expression reads {name}, which is no input: {}", inputs_in_words(inputs)));
-            }
-            _ if pops > held => {
-                return Some(format!("its token {name} takes {pops} words, and the stack holds {held}"))
-            }
-            _ => held = held + 1 - pops,
-        }
-        if held > limit {
-            return Some(format!("its expression holds {held} words, and {limit} are the most"));
-        }
-    }
-    match rest.first() {
-        Some(byte @ (1 | 2)) => Some(format!("its token {byte:02X} lacks operand bytes at the record's end")),
-        Some(byte) => Some(format!("its byte {byte:02X} is no token of a table")),
-        None if tokens.is_empty() => Some("it has no expression".into()),
-        None if held != 1 => Some(format!("its expression leaves {held} words, not one")),
-        None => None,
     }
 }
 

@@ -1,38 +1,44 @@
-//! A refusal in words: its number and offset, which are the archive's; the record that stands there, and what is wrong
-//! with it, which are found here.
+//! A refusal in words: its number and offset, which are the archive's; the record and the token that stand there, and
+//! what is wrong with them, which are found here.
 
-use super::expression::{fault, inputs_in_words, postfix, tokens};
-use super::json::object;
+use super::expression::{inputs_in_words, postfix, tokens};
+use super::fault::Fault;
+use super::json::{object, Json};
 use super::proved::{self, Refusal};
 use super::rule::{Action, Instruction};
 use super::{Answer, REFUSED};
-use crate::encoding::Form;
+use crate::encoding::{self, Form};
 use crate::hex;
 use crate::parts::Parts;
 
-const HEADER: usize = 6;
+/// The reply that an expression breaks its rules.
+const EXPRESSION: u32 = 7;
+const ASSERT: u8 = 3;
 /// Of longer records the first bytes are shown.
 const BYTES_SHOWN: usize = 48;
 
 /// What is said of a refused table.
 pub fn answer(table: &[u8], bound: u64, refusal: Refusal) -> Answer {
     let Refusal { reply, offset } = refusal;
-    let record = (5..=7).contains(&reply).then(|| Place::of(table, offset as usize));
-    let reason = match &record {
+    let place = (5..=EXPRESSION).contains(&reply).then(|| Place::of(table, refusal));
+    let reason = match &place {
         Some(place) => place.reason(reply),
         None => reason(table, bound, reply),
     };
     let mut lines = vec![format!("refused {reply} at {offset}: {}", meaning(reply))];
-    lines.extend(record.iter().flat_map(Place::lines));
+    lines.extend(place.iter().flat_map(Place::lines));
     lines.extend(reason.clone());
     let json = object([
         ("answer", "refused".into()),
         ("reply", reply.into()),
         ("offset", offset.into()),
         ("meaning", meaning(reply).into()),
-        ("record", record.as_ref().and_then(|place| place.number).into()),
-        ("bytes", record.as_ref().map(|place| hex::text(place.bytes)).into()),
-        ("reads", record.as_ref().and_then(Place::reads).into()),
+        ("record", place.as_ref().and_then(|place| place.number).into()),
+        ("record_offset", place.as_ref().map(|place| place.start).into()),
+        ("bytes", place.as_ref().map(|place| hex::text(place.bytes)).into()),
+        ("reads", place.as_ref().and_then(Place::reads).into()),
+        ("token", place.as_ref().and_then(Place::token_json).into()),
+        ("problem", place.as_ref().and_then(Place::problem_json).into()),
         ("reason", reason.into()),
     ]);
     Answer { status: REFUSED, text: lines.join("\n") + "\n", json }
@@ -95,26 +101,27 @@ fn too_long(table: &[u8], bound: u64) -> String {
 struct Place<'a> {
     /// None for bytes behind the last record.
     number: Option<usize>,
-    offset: usize,
+    /// Its first byte.
+    start: usize,
     /// As many as the record's length says, or as there are.
     bytes: &'a [u8],
-    inputs: usize,
+    /// The byte of refusal 7.
+    fault: Option<usize>,
+    inputs: u8,
     count: usize,
 }
 
 impl Place<'_> {
-    fn of(table: &[u8], offset: usize) -> Place<'_> {
-        let Parts { inputs, records, .. } = Parts::of(table).expect("a refused record stands behind a header");
-        let ends = records.iter().scan(HEADER, |end, record| {
-            *end += 2 + record.len();
-            Some(*end)
-        });
-        let number = ends.take_while(|end| *end <= offset).count();
+    fn of(table: &[u8], Refusal { reply, offset }: Refusal) -> Place<'_> {
+        let parts = Parts::of(table).expect("a refused record stands behind a header");
+        let fault = Some(offset as usize).filter(|_| reply == EXPRESSION);
+        // A fault may be the record's end; the byte before it is the record's.
+        let (number, start) = parts.record_at(fault.map_or(offset as usize, |fault| fault - 1));
         let count = usize::from(u16::from_be_bytes([table[4], table[5]]));
-        let rest = table.get(offset..).unwrap_or(&[]);
-        let length = records.get(number).map_or(rest.len(), |record| 2 + record.len());
+        let rest = table.get(start..).unwrap_or(&[]);
+        let length = parts.records.get(number).map_or(rest.len(), |record| 2 + record.len());
         let number = Some(number).filter(|number| *number < count);
-        Place { number, offset, bytes: &rest[..length.min(rest.len())], inputs: inputs.into(), count }
+        Place { number, start, bytes: &rest[..length.min(rest.len())], fault, inputs: parts.inputs, count }
     }
 
     fn lines(&self) -> Vec<String> {
@@ -124,8 +131,9 @@ impl Place<'_> {
             _ => hex::text(self.bytes),
         };
         let what = self.number.map_or("behind the last record".into(), |number| format!("record {number}"));
-        let shown = format!("{what}, at byte {}: {bytes}", self.offset);
-        [Some(shown), self.reads().map(|reads| format!("it reads: {reads}"))].into_iter().flatten().collect()
+        let shown = format!("{what}, at byte {}: {bytes}", self.start);
+        let reads = self.reads().map(|reads| format!("it reads: {reads}"));
+        [Some(shown), reads, self.token_line()].into_iter().flatten().collect()
     }
 
     /// The record without its length.
@@ -136,19 +144,48 @@ impl Place<'_> {
     /// The instruction, as far as it can be read.
     fn reads(&self) -> Option<String> {
         let instruction = Instruction::read(self.body())?;
-        let (tokens, rest) = tokens(Form::Table, instruction.expression);
-        if rest.is_empty() && fault(instruction.expression, self.inputs).is_none() {
+        let assert = [&[ASSERT], instruction.expression].concat();
+        if proved::accept(&encoding::table(self.inputs, &[assert])).is_ok() {
             return Some(instruction.to_string());
         }
+        let (tokens, rest) = tokens(Form::Table, instruction.expression);
         let rest = if rest.is_empty() { String::new() } else { format!(", then {}", hex::text(rest)) };
         Some(instruction.with(&postfix(&tokens)).trim_end().to_string() + &rest)
+    }
+
+    /// The token that refusal 7 points at, and its byte in the table.
+    fn token(&self) -> Option<(Fault<'_>, usize)> {
+        let offset = self.fault?;
+        let expression = Instruction::read(self.body())?.expression;
+        let start = self.start + self.bytes.len() - expression.len();
+        let may_read = |symbol| symbol < self.inputs.into();
+        Some((Fault::at(expression, offset.checked_sub(start)?, Form::Table, may_read)?, offset))
+    }
+
+    fn token_line(&self) -> Option<String> {
+        let (Fault { number, bytes, .. }, offset) = self.token()?;
+        if bytes.is_empty() {
+            return Some(format!("its end, at byte {offset}, behind {number} tokens"));
+        }
+        let (tokens, _) = tokens(Form::Table, bytes);
+        let name = tokens.first().map_or(String::new(), |token| format!(", {}", token.name()));
+        Some(format!("token {number}, at byte {offset}: {}{name}", hex::text(bytes)))
+    }
+
+    fn token_json(&self) -> Option<Json> {
+        let (Fault { number, bytes, .. }, offset) = self.token()?;
+        Some(object([("number", number.into()), ("offset", offset.into()), ("bytes", hex::text(bytes).into())]))
+    }
+
+    fn problem_json(&self) -> Option<Json> {
+        self.token().map(|(fault, _)| fault.problem.json(self.inputs.into()))
     }
 
     fn reason(&self, reply: u32) -> Option<String> {
         match reply {
             5 => Some(self.broken()),
             6 => self.against_rule(),
-            _ => fault(Instruction::read(self.body())?.expression, self.inputs),
+            _ => self.token().map(|(fault, _)| fault.problem.words(self.inputs.into())),
         }
     }
 
@@ -181,7 +218,7 @@ impl Place<'_> {
     fn against_rule(&self) -> Option<String> {
         match Instruction::read(self.body())?.action {
             Action::Assign(symbol) => {
-                Some(format!("it assigns to s{symbol}, which is no input: {}", inputs_in_words(self.inputs)))
+                Some(format!("it assigns to s{symbol}, which is no input: {}", inputs_in_words(self.inputs.into())))
             }
             Action::Jump(target) => {
                 Some(format!("its target is {target}; a target is 0 to {0}, and {0} is the end", self.count))

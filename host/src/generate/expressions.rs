@@ -64,7 +64,45 @@ fn any_operator(random: &mut Random) -> (u8, usize) {
     }
 }
 
-fn operand(random: &mut Random, scope: Scope) -> Vec<u8> {
+/// One of the operators that pop so many words, 1 to 3.
+pub fn operator(random: &mut Random, pops: usize) -> u8 {
+    loop {
+        let (operator, popped) = any_operator(random);
+        if popped == pops {
+            return operator;
+        }
+    }
+}
+
+/// A place before, between or behind tokens.
+#[derive(Clone, Copy, Default)]
+pub struct Joint {
+    pub at: usize,
+    /// How many words are held there.
+    pub held: usize,
+}
+
+/// The joints of an expression, from its start to its end, or to a token that breaks its rules.
+pub fn joints(form: Form, expression: &[u8]) -> Vec<Joint> {
+    let symbol = form.symbol(0);
+    let mut joint = Joint::default();
+    let mut joints = vec![joint];
+    while let Some(&code) = expression.get(joint.at) {
+        let (length, pops) = match code {
+            0x01 => (5, 0),
+            code if code == symbol[0] => (symbol.len(), 0),
+            _ => (1, usize::from(code >> 4)),
+        };
+        if pops > joint.held || joint.at + length > expression.len() {
+            break;
+        }
+        joint = Joint { at: joint.at + length, held: joint.held + 1 - pops };
+        joints.push(joint);
+    }
+    joints
+}
+
+pub fn operand(random: &mut Random, scope: Scope) -> Vec<u8> {
     if scope.symbols.is_empty() || random.one_in(3) {
         return constant(random.word());
     }

@@ -1,9 +1,7 @@
 //! Damage to an accepted table or trace: to its records before they are laid out, and to the bytes afterwards.
 
-use std::mem;
-
+use super::broken;
 use super::draft::{Draft, Record, ASSIGN, IF_THEN_GOTO};
-use super::expressions::{self, Scope};
 use super::random::Random;
 use crate::encoding::{self, Form};
 
@@ -19,7 +17,7 @@ pub fn damaged(random: &mut Random, mut draft: Draft) -> Vec<u8> {
     file
 }
 
-/// Faults often meet in one record, or in the last.
+/// Faults often meet in one record, in the last or in the first.
 fn damage_records(random: &mut Random, draft: &mut Draft, faults: usize) {
     let count = draft.records.len();
     if count == 0 {
@@ -27,12 +25,13 @@ fn damage_records(random: &mut Random, draft: &mut Draft, faults: usize) {
     }
     let mut i = random.below(count);
     for _ in 0..faults {
-        damage_record(random, draft, i);
-        i = match random.below(3) {
+        i = match random.below(5) {
             0 => i,
             1 => count - 1,
+            2 => 0,
             _ => random.below(count),
         };
+        damage_record(random, draft, i);
     }
 }
 
@@ -41,7 +40,7 @@ fn damage_record(random: &mut Random, draft: &mut Draft, i: usize) {
         0 => break_kind(random, draft.form, &mut draft.records[i]),
         1 => lose_fields(random, &mut draft.records[i]),
         2..=4 => break_field(random, draft, i),
-        _ => break_expression(random, draft, i),
+        _ => draft.records[i].expression = broken::expression(random, draft, i),
     }
 }
 
@@ -80,56 +79,6 @@ fn break_trace_symbol(random: &mut Random, draft: &mut Draft, i: usize) {
     let record = &mut draft.records[i];
     record.kind = ASSIGN;
     record.set_trace_symbol(random.pick(&[0, newest, newest, newest.saturating_sub(1), end, end, end - 1, 65535]));
-}
-
-fn break_expression(random: &mut Random, draft: &mut Draft, i: usize) {
-    let mut expression = mem::take(&mut draft.records[i].expression);
-    match random.below(14) {
-        0 => expression.clear(),
-        1 => expression.insert(0, random.pick(&[0x10, 0x12, 0x20, 0x2D, 0x30])),
-        2 => expression.push(random.pick(&[0x20, 0x25, 0x2A, 0x2D, 0x30])),
-        3 => expression.extend(expressions::constant(random.word())),
-        4 => expression.push(random.pick(&[0x00, 0x04, 0x0F, 0x13, 0x1F, 0x2E, 0x2F, 0x31])),
-        5 => expression = draft.form.other().symbol(0),
-        6 => drop(expression.pop()),
-        7 => expression.extend(cut_token(random, expressions::constant(1))),
-        8 => expression.extend(cut_token(random, draft.form.symbol(0))),
-        9..=10 => expression = draft.form.symbol(unreadable(random, draft, i)),
-        11 => expression = too_deep(random, draft, i),
-        12 => expression.push(random.byte()),
-        _ => {
-            let place = random.below(expression.len() + 1);
-            expression.insert(place, random.byte());
-        }
-    }
-    draft.records[i].expression = expression;
-}
-
-/// A token without its last operands.
-fn cut_token(random: &mut Random, mut token: Vec<u8>) -> Vec<u8> {
-    let length = random.between(1, token.len() - 1);
-    token.truncate(length);
-    token
-}
-
-fn too_deep(random: &mut Random, draft: &Draft, i: usize) -> Vec<u8> {
-    let scope = Scope { form: draft.form, symbols: &draft.readable(i) };
-    expressions::with_peak(random, scope, draft.form.depth_limit() + 1)
-}
-
-/// A symbol that record `i` may not read.
-fn unreadable(random: &mut Random, draft: &Draft, i: usize) -> u16 {
-    let inputs = draft.inputs.into();
-    match draft.form {
-        Form::Table => inputs,
-        Form::Trace | Form::OldTrace => {
-            let readable = draft.readable(i);
-            let own = draft.records[i].trace_symbol().unwrap_or(draft.symbol_end());
-            let skipped = (inputs..own).filter(|symbol| !readable.contains(symbol));
-            let wrong = skipped.chain([own, own, own.saturating_add(1), draft.symbol_end() - 1, 4160, 65535]);
-            random.pick(&wrong.collect::<Vec<u16>>())
-        }
-    }
 }
 
 pub fn damage_bytes(random: &mut Random, file: &mut Vec<u8>, form: Form) {

@@ -106,24 +106,30 @@ pub fn symbols<F: Form>(bytes: &[u8]) -> impl Iterator<Item = usize> + '_ {
     })
 }
 
-/// Whether the bytes are one expression that reads only what it may.
-pub fn is_accepted<F: Form>(mut bytes: &[u8], may_read: impl Fn(usize) -> bool) -> bool {
+/// Where the bytes break the rules of an expression that reads only what it may: the first token at which they do, or
+/// their end where they leave other than one word.
+pub fn first_fault<F: Form>(bytes: &[u8], may_read: impl Fn(usize) -> bool) -> Option<usize> {
     let mut depth = 0;
-    while !bytes.is_empty() {
-        let Some((token, rest)) = split_token::<F>(bytes) else {
-            return false;
+    let mut rest = bytes;
+    while !rest.is_empty() {
+        let Some((held, behind)) = step::<F>(rest, depth, &may_read) else {
+            return Some(bytes.len() - rest.len());
         };
-        let pops = match token {
-            Token::Symbol(symbol) if !may_read(symbol) => return false,
-            _ => token.pops(),
-        };
-        if depth < pops || depth - pops == F::DEPTH_LIMIT {
-            return false;
-        }
-        depth = depth - pops + 1;
-        bytes = rest;
+        depth = held;
+        rest = behind;
     }
-    depth == 1
+    (depth != 1).then_some(bytes.len())
+}
+
+/// How many words are held after the first token of the bytes, and what follows it; nothing where it breaks a rule.
+#[inline]
+fn step<'a, F: Form>(bytes: &'a [u8], depth: usize, may_read: &impl Fn(usize) -> bool) -> Option<(usize, &'a [u8])> {
+    let (token, rest) = split_token::<F>(bytes)?;
+    if matches!(token, Token::Symbol(symbol) if !may_read(symbol)) {
+        return None;
+    }
+    let below = depth.checked_sub(token.pops())?;
+    (below < F::DEPTH_LIMIT).then_some((below + 1, rest))
 }
 
 /// The word that an accepted expression leaves.

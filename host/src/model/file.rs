@@ -1,4 +1,5 @@
-//! Document 01, "Table and trace bytes" and "Numbered replies": what tables and traces have in common.
+//! Document 01, "Table and trace bytes" and "Numbered replies", and request 2026-08 on refusal 7's offset: what tables
+//! and traces have in common.
 
 use std::ops::Range;
 
@@ -80,8 +81,8 @@ pub trait Rules {
     /// Whether refusal 6 is not due.
     fn allow(&self, action: &Self::Action) -> bool;
 
-    /// Whether refusal 7 is not due.
-    fn accept(&self, expression: &[u8]) -> bool;
+    /// Where in an expression refusal 7 is due, if it is.
+    fn fault(&self, expression: &[u8]) -> Option<usize>;
 
     /// Takes note of record `i`, which was accepted.
     fn note(&mut self, i: usize, offset: usize, action: Self::Action);
@@ -108,8 +109,8 @@ fn check_record<'a, R: Rules>(bytes: &'a [u8], offset: usize, rules: &R) -> Resu
     if !rules.allow(&record.action) {
         return Err(Refusal::new(6, offset));
     }
-    if !rules.accept(record.expression) {
-        return Err(Refusal::new(7, offset));
+    if let Some(fault) = rules.fault(record.expression) {
+        return Err(Refusal::new(7, record.range.end - record.expression.len() + fault));
     }
     Ok(record)
 }

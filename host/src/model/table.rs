@@ -73,8 +73,8 @@ impl Rules for TableRules<'_> {
         }
     }
 
-    fn accept(&self, expression: &[u8]) -> bool {
-        expression::is_accepted::<InTable>(expression, |symbol| symbol < self.header.inputs.into())
+    fn fault(&self, expression: &[u8]) -> Option<usize> {
+        expression::first_fault::<InTable>(expression, |symbol| symbol < self.header.inputs.into())
     }
 
     fn note(&mut self, i: usize, offset: usize, _: Instruction) {

@@ -96,8 +96,8 @@ impl Rules for TraceRules {
         }
     }
 
-    fn accept(&self, expression: &[u8]) -> bool {
-        expression::is_accepted::<InTrace>(expression, |symbol| self.readable.get(symbol) == Some(&true))
+    fn fault(&self, expression: &[u8]) -> Option<usize> {
+        expression::first_fault::<InTrace>(expression, |symbol| self.readable.get(symbol) == Some(&true))
     }
 
     fn note(&mut self, _: usize, _: usize, statement: Statement) {

@@ -94,7 +94,7 @@ fn the_sample_rules_are_answered_as_written_down() {
 
 #[test]
 fn every_refusal_is_told_in_words() {
-    hold("refusals", 30);
+    hold("refusals", 50);
 }
 
 #[test]
@@ -109,5 +109,5 @@ fn a_solver_that_lies_or_fails_is_not_believed() {
 
 #[test]
 fn every_answer_is_json_that_python_reads() {
-    hold("json", 14);
+    hold("json", 21);
 }
