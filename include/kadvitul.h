@@ -1,4 +1,4 @@
-/* Kadvitul: a proved checker for merge rules. Version 3.0.0.
+/* Kadvitul: a proved checker for merge rules. Version 4.0.0.
  *
  * A rule is a table of bytes, and a trace is a file of bytes too; docs/FORMAT.md says what they hold. Every call but
  * kadvitul_version takes any bytes at all and gives one number of the documented answer; the calls that belong together give the numbers of
@@ -20,15 +20,16 @@ extern "C" {
 #endif
 
 /* The version: 10000 times the first number, 100 times the second, and the third. kadvitul_version gives that of the archive. */
-#define KADVITUL_VERSION 30000
-#define KADVITUL_VERSION_TEXT "3.0.0"
+#define KADVITUL_VERSION 40000
+#define KADVITUL_VERSION_TEXT "4.0.0"
 
 /* The room that always does, in bytes: for a trace or a slice, and for a script. */
 #define KADVITUL_ROOM 65535
 #define KADVITUL_SCRIPT_ROOM 4000000
 
-/* Replies. The offset is that of the refused record's first byte, or of the first spare byte, for 5 to 7, and 0 otherwise. A refusal's
- * other numbers are 0. */
+/* Replies. The offset is, for 5 and 6, that of the refused record's first byte, or of the first spare byte; for 7 that of the first token
+ * at which the expression breaks its rules, or of its end where its tokens leave other than one word; and 0 otherwise. A refusal's other
+ * numbers are 0. */
 enum kadvitul_reply {
     KADVITUL_DONE = 0,
     KADVITUL_TOO_SHORT = 1,        /* fewer than 6 bytes */
