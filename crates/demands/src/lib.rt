@@ -1,5 +1,7 @@
 // What a caller knows of the calls from C, with nothing asked of him: the numbers of a group of calls, put together by their names, are the
 // whole answer, and the buffer holds it. A call that asked for something, promised less or gave another number would break one of these.
+#![tactic(auto)]
+
 ghost use Rattle.std.specs.Prelude.{◌≡◌};
 ghost use Rattle.kadvitul.specs.Interface.{run_bytes, judge_bytes};
 ghost use Rattle.unwind.specs.Answer.{TraceWritten};

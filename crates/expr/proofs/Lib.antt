@@ -4,6 +4,3 @@ pub mod Steps
 pub mod Operands
 pub mod Evals
 pub mod Rests
-pub mod ReaderRecord
-pub mod Walks
-pub mod StackRecord

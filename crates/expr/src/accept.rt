@@ -9,14 +9,14 @@ use super::{File, reader, token};
 
 // The answer: an expression, or the offset of the first token at which it breaks its rules. That is the end where its tokens leave
 // other than one word.
-#[derive(Drop)]
+#[derive(Clone, Copy)]
 pub enum Checked {
     Fine,
     Broken(usize),
 }
 
 // One token: it may not stand there, or it leaves this depth and takes so many bytes.
-#[derive(Drop)]
+#[derive(Clone, Copy)]
 enum After {
     Stop,
     Next(usize, usize),

@@ -12,7 +12,7 @@ use super::token::Read;
 use super::{File, reader, stack, token, word};
 
 // What a token puts on the stack, and the bytes that it takes.
-#[derive(Drop)]
+#[derive(Clone, Copy)]
 pub struct Operand {
     pub size: usize,
     pub word: u32,

@@ -8,7 +8,7 @@ use super::token::Read;
 use super::{File, token};
 
 // The bytes of a record, with the offset of the next token.
-#[derive(Drop)]
+#[derive(Clone, Copy)]
 pub struct Reader<'a> {
     pub rec: &'a [u8],
     pub at: usize,

@@ -7,7 +7,7 @@ ghost use Rattle.expr.specs.Shown.{shown_token, read_size, pops_of, size_of};
 use super::{File, number};
 
 // What stands at a place of an expression: nothing that the file may hold, a constant, a symbol, or an operator by its code.
-#[derive(Drop)]
+#[derive(Clone, Copy)]
 pub enum Read {
     Nothing,
     Constant(u32),

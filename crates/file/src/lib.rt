@@ -1,4 +1,6 @@
 // What tables and traces share: the header and the framing of records (document 01, "Table and trace bytes").
+#![tactic(auto)]
+
 ghost use Rattle.std.specs.Prelude.{◌≡◌, ◌+◌, ◌*◌, ◌≤◌, ◌<◌, length, drop};
 ghost use Rattle.std.proofs.lemmas.List.Edits.{sets};
 ghost use Rattle.expr.specs.Number.{number_of};
@@ -13,7 +15,7 @@ use expr::{File, accept, number};
 
 // How far the records of a file were read: a reply with its offset, 0 if all are there and nothing after them; and the number of records
 // that were read before it.
-#[derive(Drop)]
+#[derive(Clone, Copy)]
 pub struct Reading {
     pub reply: u8,
     pub offset: usize,
@@ -21,7 +23,7 @@ pub struct Reading {
 }
 
 // What is wrong with a record: a reply, 0 for nothing, and the byte that it points at, counted from the record's first.
-#[derive(Drop)]
+#[derive(Clone, Copy)]
 pub struct Fault {
     pub reply: u8,
     pub from: usize,

@@ -1,4 +1,6 @@
 // The C interface: one number of an answer for each call. `include/kadvitul.h` declares it.
+#![tactic(auto)]
+
 ghost use Rattle.std.specs.Prelude.{◌≡◌, ◌+◌, ◌/◌, ◌*◌, length};
 ghost use Rattle.file.specs.File.{input_room};
 ghost use Rattle.kadvitul.specs.Interface.{run_bytes, judge_bytes, VersionGives, RunGives, JudgeGives, TraceGives, SliceGives};

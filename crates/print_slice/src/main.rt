@@ -1,4 +1,6 @@
 // The slice printer: from standard input K as one byte and then the table, to standard output the slice as text, or the refusal.
+#![tactic(auto)]
+
 ghost use Rattle.std.specs.Prelude.{length};
 ghost use Rattle.print_slice.specs.Buffers.{Decides, HoldsEvery};
 

@@ -1,4 +1,6 @@
 // The SMT-LIB script of a trace.
+#![tactic(auto)]
+
 mod line;
 mod operator;
 mod term;
@@ -61,7 +63,7 @@ fn measure(trace: &[u8]) -> usize
 }
 
 // The answer to writing a script: a reply and its offset, and the length written.
-#[derive(Drop)]
+#[derive(Clone, Copy)]
 pub struct Answer {
     pub reply: u32,
     pub offset: u32,

@@ -77,7 +77,7 @@ fn put_tested(kind: u8, e: &[u8], out: &mut [u8], at: usize) -> usize
 }
 
 // The parts of a script to which statements add.
-#[derive(Drop)]
+#[derive(Clone, Copy)]
 pub enum Part {
     Declarations,
     Equations,
@@ -145,7 +145,7 @@ pub fn put_pieces(part: Part, trace: &[u8], n: usize, out: &mut [u8], to: usize)
 }
 
 // Of the statements so far: how many are tests, how many statements there are up to the last Assert, and how many of those are tests.
-#[derive(Drop)]
+#[derive(Clone, Copy)]
 pub struct Noted {
     pub seen: usize,
     pub statements: usize,

@@ -41,7 +41,7 @@ fn put_word(t: Read, k: usize, out: &mut [u8], at: usize) -> usize
 }
 
 // After a token: its bytes in the trace, the words held, and the next place of the buffer.
-#[derive(Drop)]
+#[derive(Clone, Copy)]
 struct Bound {
     pub size: usize,
     pub depth: usize,

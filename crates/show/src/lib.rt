@@ -1,4 +1,6 @@
 // The text of a slice, as the slice printer gives it.
+#![tactic(auto)]
+
 mod line;
 mod word;
 
@@ -11,7 +13,7 @@ ghost use Rattle.show.specs.Answer.{refusal, numbers, SliceShown};
 ghost use Rattle.show.specs.Shown.{Fitted};
 
 // The answer to showing a slice: a reply and its offset, and the length of the text.
-#[derive(Drop)]
+#[derive(Clone, Copy)]
 pub struct Answer {
     pub reply: u32,
     pub offset: u32,

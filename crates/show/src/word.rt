@@ -66,7 +66,7 @@ fn put_name(code: u8, out: &mut [u8], at: usize) -> usize
 }
 
 // After a token: its bytes in the trace, and the next place of the buffer.
-#[derive(Drop)]
+#[derive(Clone, Copy)]
 struct Put {
     pub size: usize,
     pub to: usize,

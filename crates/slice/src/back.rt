@@ -11,7 +11,7 @@ use expr::number;
 use trace::read;
 
 // What is kept of the statements behind: whether an Assert is among them, how many they are, and their bytes.
-#[derive(Drop)]
+#[derive(Clone, Copy)]
 pub struct Kept {
     pub asserts: bool,
     pub count: usize,

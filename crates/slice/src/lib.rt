@@ -1,4 +1,6 @@
 // The slice of a trace.
+#![tactic(auto)]
+
 mod back;
 mod copy;
 mod mask;
@@ -12,7 +14,7 @@ use trace::read;
 
 // Document 01's answer to slicing: a reply and its offset, the length written, the mask of the inputs that the slice reads, and the
 // count of its ones.
-#[derive(Drop)]
+#[derive(Clone, Copy)]
 pub struct Answer {
     pub reply: u32,
     pub offset: u32,

@@ -1,4 +1,6 @@
 // Tables: any bytes are read, and an accepted table is run under a bound on its back jumps.
+#![tactic(auto)]
+
 pub mod read;
 mod steps;
 
@@ -8,7 +10,7 @@ use file::INPUT_ROOM;
 
 // Document 01's answer to running: a reply and its offset; 0 ended, 1 unsafe with its place, 2 stopped by an Assume,
 // 3 cut by the bound; the back jumps taken.
-#[derive(Drop)]
+#[derive(Clone, Copy)]
 pub struct Answer {
     pub reply: u32,
     pub offset: u32,

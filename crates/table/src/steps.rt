@@ -14,7 +14,7 @@ use super::{Answer, read};
 use expr::{File, eval, number};
 
 // After an instruction: go on at an instruction with so many back jumps taken, or end with a verdict and its place.
-#[derive(Drop)]
+#[derive(Clone, Copy)]
 enum Move {
     Go(usize, usize),
     End(u32, u32),

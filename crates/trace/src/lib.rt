@@ -1,4 +1,6 @@
 // Traces: any bytes are read, and an accepted trace is judged under a valuation.
+#![tactic(auto)]
+
 pub mod read;
 mod steps;
 
@@ -13,7 +15,7 @@ pub const VERSION: u8 = 130;
 const OLD_VERSION: u8 = 129;
 
 // Document 01's answer to judging: a reply and its offset, 0 ended, 1 unsafe with its place, 2 stopped by an Assume, 3 cut by the bound.
-#[derive(Drop)]
+#[derive(Clone, Copy)]
 pub struct Answer {
     pub reply: u32,
     pub offset: u32,

@@ -12,7 +12,7 @@ use super::{Answer, read};
 use expr::{File, eval, number};
 
 // After a statement: go on, or end with a verdict and its place.
-#[derive(Drop)]
+#[derive(Clone, Copy)]
 enum Move {
     Go,
     End(u32, u32),

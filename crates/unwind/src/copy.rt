@@ -16,7 +16,7 @@ use expr::number;
 use table::read;
 
 // How far the writing has come: the newest symbol of control, the next new symbol, and the next place of the buffer.
-#[derive(Drop)]
+#[derive(Clone, Copy)]
 pub struct Front {
     pub control: usize,
     pub next: usize,

@@ -1,4 +1,6 @@
 // The trace of a table under a bound, written as bytes.
+#![tactic(auto)]
+
 mod copy;
 mod record;
 mod size;
@@ -22,7 +24,7 @@ use file::INPUT_ROOM;
 use table::read;
 
 // Document 01's answer to writing a trace: a reply and its offset, and the length written.
-#[derive(Drop)]
+#[derive(Clone, Copy)]
 pub struct Answer {
     pub reply: u32,
     pub offset: u32,

@@ -12,7 +12,7 @@ use expr::number;
 use table::read;
 
 // The bytes of an instruction or of a whole copy, in the copies before the last one and in the last one.
-#[derive(Drop)]
+#[derive(Clone, Copy)]
 struct Sizes {
     pub early: usize,
     pub last: usize,

@@ -13,7 +13,7 @@ use expr::token::Read;
 use expr::{File, token};
 
 // After a token: its bytes in the table, and the next place of the buffer.
-#[derive(Drop)]
+#[derive(Clone, Copy)]
 struct Put {
     pub size: usize,
     pub to: usize,

@@ -1,4 +1,6 @@
 // Numbers, a trace's tokens and headers, written into a lent buffer. Each writer gives the next place.
+#![tactic(auto)]
+
 ghost use Rattle.std.specs.Prelude.{[], ◌∷◌, ◌≡◌, ◌+◌, ◌^◌, ◌≤◌, ◌<◌, length, set};
 ghost use Rattle.expr.specs.declared.File.TheVariants.{Trace};
 ghost use Rattle.expr.specs.Number.{bytes_of};
