@@ -1,0 +1,12 @@
+-- A single digit is a byte.
+use native.Mathlib.Omega.{arith}
+use mathlib.Core.Path.{sym}
+use Rattle.write.specs.SpliceLaws.{wrote_as}
+use Rattle.write.specs.DecimalLaws.{digit_is}
+use Rattle.write.proofs.fit_decimal.Goals as goal
+
+pub returns-then-v-lt10 : goal.returns-then-v-lt10
+returns-then-v-lt10 c =
+    let fit-byte = c.fit_byte in
+    let if1 = c.if-v-lt10 in
+    (wrote_as (sym (digit_is _ if1.true)) fit-byte.ensures, omega (arith, fit-byte.ensures.next))

@@ -1,0 +1,7 @@
+use Rattle.write.specs.Splice.{splice}
+use mathlib.Core.Path.{refl}
+use Rattle.write.proofs.put_byte.Goals as goal
+
+pub returns : goal.returns
+unfolding splice
+returns c = record { buffer = refl; next = refl }

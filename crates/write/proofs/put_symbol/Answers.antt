@@ -1,0 +1,5 @@
+use Rattle.write.specs.SpliceLaws.{◌then◌}
+use Rattle.write.proofs.put_symbol.Goals as goal
+
+pub returns : goal.returns
+returns c = c.put_byte-to.ensures then c.put_two.ensures
