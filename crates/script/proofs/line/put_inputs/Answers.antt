@@ -1,0 +1,22 @@
+use native.Mathlib.Omega.{arith}
+use Prim.Native.Nat.{◌-◌}
+use Rattle.file.specs.FileLaws.{symbols_in_two-bytes}
+use Rattle.script.proofs.Pieces.{declaring_start, declaring_on, declaring_end}
+use Rattle.script.proofs.line.put_inputs.Goals as goal
+
+pub loop-k-init : goal.loop-k-init
+loop-k-init c = declaring_start _ _ _
+
+pub put_declaration-to-requires : goal.put_declaration-to-requires
+put_declaration-to-requires c = (
+  omega (arith, c.loop-k-test.true, c.requires.0, symbols_in_two-bytes),
+  omega (arith, c.loop-k.invariant.little, c.loop-k-test.true, c.requires.0, c.requires.1, symbols_in_two-bytes),
+)
+
+pub loop-k-preserved : goal.loop-k-preserved
+loop-k-preserved c =
+    declaring_on c.loop-k.invariant c.loop-k-test.true c.put_declaration-to.ensures
+
+pub returns : goal.returns
+returns c =
+    declaring_end c.loop-k.invariant c.loop-k-test.false c.requires.0

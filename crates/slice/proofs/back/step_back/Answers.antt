@@ -1,0 +1,22 @@
+use Rattle.trace.specs.Shown.{symbol_room, loose}
+use Rattle.trace.proofs.Held.{Held, held_at}
+use native.Mathlib.Omega.{arith}
+use Rattle.slice.proofs.Records.{stepped_kept}
+use Rattle.slice.proofs.back.step_back.Goals as goal
+use Rattle.slice.proofs.back.step_back.Goals.{Start}
+
+here : (c : Start) → Held symbol_room loose c.args.trace.now c.args.at
+here c = held_at symbol_room loose c.args.trace.now c.args.at c.requires.5
+
+pub bounds-trace-at : goal.bounds-trace-at
+bounds-trace-at c =
+    (here (goal.at.bounds-trace-at c).Start).kind-there
+
+pub two_at-requires : goal.two_at-requires
+two_at-requires c =
+    omega (arith, (here (goal.at.two_at-requires c).Start).whole)
+
+pub returns-then-keeps : goal.returns-then-keeps
+returns-then-keeps c =
+    stepped_kept (here (goal.at.returns-then-keeps c).Start) c.args.k c.args.behind c.args.kept.now c.args.needed.now _ c.keeps.ensures c.if-keeps.true
+    c.mark_record.new.needed c.mark_record.ensures _ c.has_assert.ensures _ c.two_at.ensures.0

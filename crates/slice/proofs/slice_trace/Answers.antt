@@ -1,0 +1,135 @@
+-- The answer by the way that the code takes to it: each `return` cites the law of that way (`proofs/Answers.antt`).
+use Prim.Native.Nat.{ℕ, ◌≤◌, ◌<◌}
+use native.Mathlib.Omega.{arith}
+use mathlib.Core.Path.{◌≡◌}
+use mathlib.Core.Bool.{false}
+use mathlib.Core.List.{List}
+use lib.ListN.{length-replicate}
+use Rattle.expr.specs.Lists.{All, all-at}
+use Rattle.expr.specs.Number.{Byte}
+use Rattle.file.specs.File.{input_room, header_version, header_size, header_inputs, head_of, Accepted}
+use Rattle.file.specs.Shown.{listed}
+use Rattle.file.specs.FileLaws.{inputs-room, Header, same_everywhere}
+use Rattle.file.specs.ReadingLaws.{total-small, reply_refuses}
+use Rattle.trace.specs.Trace.{is_trace, read_trace}
+use Rattle.trace.specs.TraceLaws.{symbol-room}
+use Rattle.trace.specs.Shown.{Ready}
+use Rattle.trace.proofs.Answers.{offset-small, trace_accepted, right-header, is-ready}
+use Rattle.slice.proofs.Answers.{trace_refuses, size_small, no_room, records-room, slice_written}
+use Rattle.slice.proofs.Marks.{same-room}
+use Rattle.slice.proofs.slice_trace.Goals as goal
+use Rattle.slice.proofs.slice_trace.Goals.{After-header_size, After-shared_slice_known-1, After-walk_back-k, Else-out-total, Else-reply-ne0}
+
+bytes : (c : After-shared_slice_known-1) → All Byte c.args.trace.now
+bytes c = all-at Byte c.args.trace.now (λ i h. (c.shared_slice_known-1.given i).fits)
+
+-- the trace is accepted
+module _ (c : Else-reply-ne0) where
+  abbrev s : List ℕ
+  s = c.args.trace.now
+
+  abbrev out : List ℕ
+  out = c.args.out.now
+
+  accepted : read_trace s ≡ Accepted (head_of s) (listed (read_trace s))
+  accepted = trace_accepted c.read_trace-t.ensures c.if-reply-ne0.false
+
+  head : Header is_trace 4096 s
+  head = right-header c.read_trace-t.ensures c.if-reply-ne0.false
+
+  ready : Ready s c.read_trace-t.new.offsets c.read_trace-t.result.count
+  ready = is-ready c.read_trace-t.ensures c.if-reply-ne0.false (omega (arith, length-replicate {A = ℕ} 4096 0))
+
+  offsets-fit : header_size s < 65536
+  offsets-fit = omega (arith, head.long, head.total, total-small s (bytes (goal.at.Else-reply-ne0 c).After-shared_slice_known-1))
+
+  few : c.read_trace-t.result.count ≤ 4096
+  few = omega (arith, ready.count, head.count)
+
+-- and its slice is found
+small : (c : After-walk_back-k) → c.walk_back-k.result.size < 65536
+small c =
+    size_small _ (accepted (goal.at.After-walk_back-k c).Else-reply-ne0) _ _ _ c.walk_back-k.ensures
+    (bytes (goal.at.After-walk_back-k c).After-shared_slice_known-1)
+
+pub overflow_cast-t : goal.overflow_cast-t
+overflow_cast-t c =
+    omega (arith, offset-small c.read_trace-t.ensures (bytes (goal.at.overflow_cast-t c).After-shared_slice_known-1))
+
+pub returns-then-reply-ne0 : goal.returns-then-reply-ne0
+returns-then-reply-ne0 c =
+    trace_refuses _ _ _ _ (reply_refuses c.read_trace-t.ensures c.if-reply-ne0.true) _
+    c.refused.ensures
+
+pub walk_back-k-requires : goal.walk_back-k-requires
+walk_back-k-requires c = (
+  ready (goal.at.walk_back-k-requires c).Else-reply-ne0,
+  few (goal.at.walk_back-k-requires c).Else-reply-ne0,
+  c.clear-needed.ensures.0,
+  c.clear-needed.ensures.1,
+  same_everywhere 4096 false,
+)
+
+pub overflow_add-total : goal.overflow_add-total
+overflow_add-total c =
+    omega (arith, small (goal.at.overflow_add-total c).After-walk_back-k, c.header_size.ensures, (head (goal.at.overflow_add-total c).Else-reply-ne0).total, (head (goal.at.overflow_add-total c).Else-reply-ne0).long, offsets-fit (goal.at.overflow_add-total c).Else-reply-ne0)
+
+pub returns-then-out-total : goal.returns-then-out-total
+returns-then-out-total c =
+    no_room (s (goal.at.returns-then-out-total c).Else-reply-ne0) (accepted (goal.at.returns-then-out-total c).Else-reply-ne0) _ _ _ c.walk_back-k.ensures
+    c.header_size.ensures (out (goal.at.returns-then-out-total c).Else-reply-ne0)
+    c.if-out-total.true _ c.refused-then-out-total.ensures
+
+-- and fits the buffer
+module _ (c : Else-out-total) where
+  abbrev a : Else-reply-ne0
+  a = (goal.at.Else-out-total c).Else-reply-ne0
+
+  abbrev walked : After-walk_back-k
+  walked = (goal.at.Else-out-total c).After-walk_back-k
+
+  abbrev front : After-header_size
+  front = (goal.at.Else-out-total c).After-header_size
+
+pub put_header_of-to-requires : goal.put_header_of-to-requires
+put_header_of-to-requires c =
+    ((head (a (goal.at.put_header_of-to-requires c).Else-out-total)).long, omega (arith, (front (goal.at.put_header_of-to-requires c).Else-out-total).header_size.ensures, c.if-out-total.false), (head (a (goal.at.put_header_of-to-requires c).Else-out-total)).inputs)
+
+pub copy_kept-requires : goal.copy_kept-requires
+copy_kept-requires c =
+    let put = c.put_header_of-to.ensures in (
+      ready (a (goal.at.copy_kept-requires c).Else-out-total),
+      omega (arith, few (a (goal.at.copy_kept-requires c).Else-out-total), (walked (goal.at.copy_kept-requires c).Else-out-total).walk_back-k.auto.kept),
+      records-room (s (a (goal.at.copy_kept-requires c).Else-out-total)) (accepted (a (goal.at.copy_kept-requires c).Else-out-total)) _ _ _ (walked (goal.at.copy_kept-requires c).Else-out-total).walk_back-k.ensures (front (goal.at.copy_kept-requires c).Else-out-total).header_size.ensures (out (a (goal.at.copy_kept-requires c).Else-out-total))
+          c.if-out-total.false put.0 put.1,
+    )
+
+pub inputs_of-requires : goal.inputs_of-requires
+inputs_of-requires c = (head (a (goal.at.inputs_of-requires c).Else-out-total)).long
+
+pub mask_of-mask-requires : goal.mask_of-mask-requires
+unfolding input_room
+mask_of-mask-requires c =
+    let few : header_inputs (s (a (goal.at.mask_of-mask-requires c).Else-out-total)) ≤ input_room = omega (arith, (head (a (goal.at.mask_of-mask-requires c).Else-out-total)).inputs, inputs-room (header_version (s (a (goal.at.mask_of-mask-requires c).Else-out-total)))) in (
+      omega (arith, few, c.inputs_of.ensures),
+      omega (
+        arith,
+        few,
+        symbol-room,
+        c.inputs_of.ensures,
+        same-room (walked (goal.at.mask_of-mask-requires c).Else-out-total).walk_back-k.new.needed (walked (goal.at.mask_of-mask-requires c).Else-out-total).clear-needed.result
+            (walked (goal.at.mask_of-mask-requires c).Else-out-total).walk_back-k.auto.needed,
+        (walked (goal.at.mask_of-mask-requires c).Else-out-total).clear-needed.ensures.0,
+      ),
+    )
+
+pub overflow_cast-result : goal.overflow_cast-result
+overflow_cast-result c =
+    omega (arith, small (walked (goal.at.overflow_cast-result c).Else-out-total), (front (goal.at.overflow_cast-result c).Else-out-total).header_size.ensures, offsets-fit (a (goal.at.overflow_cast-result c).Else-out-total))
+
+pub returns : goal.returns
+returns c =
+    let put = c.put_header_of-to.ensures in
+    slice_written (s (a (goal.at.returns c).Else-out-total)) (accepted (a (goal.at.returns c).Else-out-total)) _ _ _ (walked (goal.at.returns c).Else-out-total).walk_back-k.ensures (front (goal.at.returns c).Else-out-total).header_size.ensures (out (a (goal.at.returns c).Else-out-total)) c.if-out-total.false
+    put.0 put.1 c.copy_kept.ensures c.inputs_of.ensures _
+    c.mask_of-mask.ensures

@@ -1,0 +1,61 @@
+use borrow.Author.Rules.{rules}
+use mathlib.Core.Path.{◌≡◌}
+use lib.ListN.{length}
+use Rattle.expr.specs.declared.File.TheVariants.{Table, Trace}
+use mathlib.Core.List.{List, [], ◌∷◌, ◌++◌}
+use Rattle.expr.specs.Token.{Token, Const, Symbol, Ite, expr_bytes}
+use Rattle.expr.specs.Expr.{below, parse}
+use Rattle.expr.specs.Shown.{tokens_of}
+use Rattle.expr.specs.Eval.{rename}
+use Rattle.trace.specs.Trace.{Assign}
+use Rattle.write.specs.SpliceLaws.{◌then◌}
+use Rattle.unwind.specs.Unwind.{guarded}
+use Rattle.unwind.specs.Size.{expr_size}
+use Rattle.unwind.specs.SizeLaws.{size-rename}
+use Rattle.unwind.specs.Shown.{current_of}
+use Rattle.unwind.proofs.Records.{closes, jump-bytes}
+use Rattle.unwind.proofs.record.put_jump.Goals as goal
+use Rattle.unwind.proofs.record.put_jump.Goals.{Start}
+
+abbrev body : Start → List Token
+body c = tokens_of (parse Table (below (length c.args.names.now)) c.args.e.now)
+
+sized : (c : Start) → length (expr_bytes Trace (rename (current_of c.args.names.now) (body c))) ≡ expr_size (body c)
+sized c = size-rename (current_of c.args.names.now) (body c)
+
+pub put_constant-d-requires : goal.put_constant-d-requires
+put_constant-d-requires c =
+    search (
+      rules,
+      sized (goal.at.put_constant-d-requires c).Start,
+    )
+
+pub put_old-f-requires : goal.put_old-f-requires
+put_old-f-requires c =
+    search (
+      rules,
+      sized (goal.at.put_old-f-requires c).Start,
+    )
+
+pub put_old-g-requires : goal.put_old-g-requires
+put_old-g-requires c =
+    search (
+      rules,
+      sized (goal.at.put_old-g-requires c).Start,
+    )
+
+pub close-requires : goal.close-requires
+close-requires c =
+    search (
+      rules,
+      sized (goal.at.close-requires c).Start,
+    )
+
+pub returns : goal.returns
+returns c =
+    let a = c.args in
+    let e = body (goal.at.returns c).Start in
+    closes (Assign a.j a.new (guarded a.w a.j ((rename (current_of a.names.now) e) ++ Const a.goal ∷ Symbol a.w ∷ Ite
+    ∷ []) (Symbol a.w))) (c.open_assign-a.ensures then c.put_guard-b.ensures then c.put_tokens-c.ensures then c.put_constant-d.ensures then
+    c.put_old-f.ensures then c.put_old-g.ensures) (jump-bytes a.w a.j (rename (current_of a.names.now) e) a.new a.goal)
+    c.close.ensures

@@ -1,0 +1,62 @@
+use Prim.Native.Nat.{◌-◌}
+use native.Mathlib.Omega.{arith}
+use mathlib.Core.Bool.{true, false}
+use Rattle.expr.specs.Lists.{All, all-at}
+use Rattle.expr.specs.Number.{Byte}
+use Rattle.unwind.proofs.Accepted.{few, small}
+use Rattle.unwind.proofs.Sizes.{readable, record-on, copy_summed}
+use Rattle.unwind.proofs.size.copy_sizes.Goals as goal
+use Rattle.unwind.proofs.size.copy_sizes.Goals.{After-shared_slice_known-1}
+
+bytes : (c : After-shared_slice_known-1) → All Byte c.args.table.now
+bytes c = all-at Byte c.args.table.now (λ i h. (c.shared_slice_known-1.given i).fits)
+
+pub instr_sizes-s-requires : goal.instr_sizes-s-requires
+instr_sizes-s-requires c = (
+  omega (arith, c.shared_slice_known-in-loop-i-1.given c.loop-i.i),
+  small _ _ _ (bytes (goal.at.instr_sizes-s-requires c).After-shared_slice_known-1)
+      c.requires,
+  readable _ _ _ (bytes (goal.at.instr_sizes-s-requires c).After-shared_slice_known-1)
+      c.requires _ c.loop-i-test.true,
+)
+
+pub overflow_add-early : goal.overflow_add-early
+overflow_add-early c =
+    omega (
+      arith,
+      c.loop-i.invariant.0.little,
+      c.instr_sizes-s.ensures.2,
+      c.loop-i-test.true,
+      few _ _ _ (bytes (goal.at.overflow_add-early c).After-shared_slice_known-1)
+          c.requires,
+    )
+
+pub overflow_add-last : goal.overflow_add-last
+overflow_add-last c =
+    omega (
+      arith,
+      c.loop-i.invariant.1.little,
+      c.instr_sizes-s.ensures.3,
+      c.loop-i-test.true,
+      few _ _ _ (bytes (goal.at.overflow_add-last c).After-shared_slice_known-1)
+          c.requires,
+    )
+
+pub loop-i-preserved : goal.loop-i-preserved
+loop-i-preserved c =
+    let s = c.instr_sizes-s.ensures in
+    let on = record-on _ _ _ (bytes (goal.at.loop-i-preserved c).After-shared_slice_known-1)
+    c.requires in (
+      on false _ _ _ c.loop-i-test.true c.loop-i.invariant.0 s.0
+          s.2,
+      on true _ _ _ c.loop-i-test.true
+          c.loop-i.invariant.1 s.1 s.3,
+    )
+
+pub returns : goal.returns
+returns c =
+    let early = copy_summed _ _ _ (bytes (goal.at.returns c).After-shared_slice_known-1) c.requires c.loop-i.invariant.0
+    c.loop-i-test.false in
+    let last = copy_summed _ _ _ (bytes (goal.at.returns c).After-shared_slice_known-1) c.requires c.loop-i.invariant.1
+    c.loop-i-test.false in
+    (early.0, last.0, early.1, last.1)

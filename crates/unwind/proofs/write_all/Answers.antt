@@ -1,0 +1,83 @@
+-- The header, the opening and the copies are written one behind the other.
+use Prim.Native.Nat.{ℕ, ◌≤◌}
+use native.Mathlib.Omega.{arith}
+use mathlib.Core.Path.{◌≡◌}
+use lib.ListN.{length}
+use Rattle.expr.specs.Lists.{All, all-at}
+use Rattle.expr.specs.Number.{Byte}
+use Rattle.file.specs.File.{head_size, input_room, inputs_limit}
+use Rattle.file.specs.FileLaws.{symbols_in_two-bytes}
+use Rattle.file.specs.Shown.{listed}
+use Rattle.table.specs.Table.{read_table}
+use Rattle.trace.specs.Trace.{trace_version}
+use Rattle.trace.specs.EncodeLaws.{room-written}
+use Rattle.unwind.proofs.Accepted.{counted, long, few-inputs}
+use Rattle.unwind.proofs.Answers.{rest-size, all-written}
+use Rattle.unwind.proofs.write_all.Goals as goal
+use Rattle.unwind.proofs.write_all.Goals.{After-put_header-a, After-shared_slice_known-1, Start}
+
+bytes : (c : After-shared_slice_known-1) → All Byte c.args.table.now
+bytes c = all-at Byte c.args.table.now (λ i h. (c.shared_slice_known-1.given i).fits)
+
+pub inputs_of-inputs-requires : goal.inputs_of-inputs-requires
+inputs_of-inputs-requires c = long _ _ _ (bytes (goal.at.inputs_of-inputs-requires c).After-shared_slice_known-1) c.requires.0
+
+pub put_header-a-requires : goal.put_header-a-requires
+unfolding trace_version
+put_header-a-requires c =
+    let room : head_size trace_version ≤ length c.args.out.now = omega (arith, c.requires.4, c.requires.5) in
+    let few : c.inputs_of-inputs.result ≤ inputs_limit trace_version = omega
+    (arith, c.inputs_of-inputs.ensures, few-inputs _ _ _ (bytes (goal.at.put_header-a-requires c).After-shared_slice_known-1) c.requires.0, room-written) in
+    (room, few)
+
+-- the header is written
+module _ (c : After-put_header-a) where
+  abbrev start : Start
+  start = (goal.at.After-put_header-a c).Start
+
+  abbrev S : ℕ
+  S = c.inputs_of-inputs.result
+
+  few : S ≤ input_room
+  few = omega
+      (arith, c.inputs_of-inputs.ensures, few-inputs _ _ _ (bytes (goal.at.After-put_header-a c).After-shared_slice_known-1) start.requires.0)
+
+  after-header : c.put_header-a.result ≡ head_size trace_version
+  unfolding trace_version
+  after-header = c.put_header-a.ensures.1
+
+pub put_opening-b-requires : goal.put_opening-b-requires
+put_opening-b-requires c =
+    omega (arith, after-header (goal.at.put_opening-b-requires c).After-put_header-a, c.put_header-a.auto.out, (start (goal.at.put_opening-b-requires c).After-put_header-a).requires.4, (start (goal.at.put_opening-b-requires c).After-put_header-a).requires.5)
+
+pub overflow_add-f : goal.overflow_add-f
+overflow_add-f c = omega (arith, few (goal.at.overflow_add-f c).After-put_header-a, symbols_in_two-bytes)
+
+pub write_copies-requires : goal.write_copies-requires
+write_copies-requires c =
+    let s = start (goal.at.write_copies-requires c).After-put_header-a in
+    let table = s.args.table.now in
+    let n = c.first_names-names.ensures in (
+      s.requires.1,
+      omega (arith, few (goal.at.write_copies-requires c).After-put_header-a, symbols_in_two-bytes, s.requires.2, s.requires.3),
+      s.requires.0,
+      omega (arith, few (goal.at.write_copies-requires c).After-put_header-a, c.inputs_of-inputs.ensures, n.0),
+      omega (
+        arith,
+        c.put_opening-b.ensures.next,
+        c.put_opening-b.auto.out,
+        after-header (goal.at.write_copies-requires c).After-put_header-a,
+        c.put_header-a.auto.out,
+        rest-size (S (goal.at.write_copies-requires c).After-put_header-a) (listed (read_table table)) s.args.bound c.first_names-names.result n.1,
+        s.requires.4,
+        s.requires.5,
+      ),
+    )
+
+pub returns : goal.returns
+unfolding trace_version
+returns c =
+    let s = start (goal.at.returns c).After-put_header-a in
+    all-written (S (goal.at.returns c).After-put_header-a) (listed (read_table s.args.table.now)) s.args.bound c.first_names-names.result c.first_names-names.ensures.1
+    s.args.n s.args.total s.args.count (counted _ _ _ (bytes (goal.at.returns c).After-shared_slice_known-1) s.requires.0) s.requires.4 s.requires.2 s.requires.5
+    c.put_header-a.ensures.0 c.put_opening-b.ensures c.write_copies.ensures c.inputs_of-inputs.ensures

@@ -1,0 +1,106 @@
+-- The answer by the way that the code takes to it: each `return` cites the law of that way (`proofs/Answers.antt`).
+use Prim.Native.Nat.{ℕ, ◌+◌, ◌*◌, ◌≤◌}
+use native.Mathlib.Omega.{arith}
+use mathlib.Core.Path.{◌≡◌, refl, sym, ◌∙◌}
+use mathlib.Core.List.{List}
+use lib.ListN.{length, length-replicate}
+use Rattle.expr.specs.Lists.{all-at}
+use Rattle.expr.specs.Number.{Byte}
+use Rattle.file.specs.File.{head_of, Accepted}
+use Rattle.file.specs.Shown.{listed}
+use Rattle.file.specs.FileLaws.{Header}
+use Rattle.file.specs.ReadingLaws.{reply_refuses}
+use Rattle.table.specs.Table.{is_table, read_table}
+use Rattle.table.specs.Shown.{Ready}
+use Rattle.table.proofs.Answers.{offset-small, table-accepted, right-header, many, is-ready}
+use Rattle.unwind.proofs.Writing.{place-little}
+use Rattle.unwind.proofs.Answers.{table_refuses, bound_refuses, count_refuses, size_refuses, room_refuses, trace_written}
+use Rattle.unwind.proofs.write_trace.Goals as goal
+use Rattle.unwind.proofs.write_trace.Goals.{Else-reply-ne0}
+
+-- the table is accepted
+module _ (c : Else-reply-ne0) where
+  abbrev s : List ℕ
+  s = c.args.table.now
+
+  abbrev n : ℕ
+  n = c.read_table-t.result.count
+
+  accepted : read_table s ≡ Accepted (head_of s) (listed (read_table s))
+  accepted = table-accepted c.read_table-t.ensures c.if-reply-ne0.false
+
+  head : Header is_table 1024 s
+  head = right-header c.read_table-t.ensures c.if-reply-ne0.false
+
+  ready : Ready s c.read_table-t.new.offsets n
+  ready = is-ready c.read_table-t.ensures c.if-reply-ne0.false (omega (arith, length-replicate {A = ℕ} 1024 0))
+
+  count-is : length (listed (read_table s)) ≡ n
+  count-is = many c.read_table-t.ensures c.if-reply-ne0.false ∙ sym ready.count
+
+  few : n ≤ 1024
+  few = omega (arith, ready.count, head.count)
+
+  statements : (K : ℕ) → K ≤ 255 → (K + 1) * (n + 1) + 0 ≤ 263424
+  statements K l = place-little n 0 (K + 1) few (omega arith) (omega arith)
+
+pub overflow_cast-t : goal.overflow_cast-t
+overflow_cast-t c =
+    let s = c.args.table.now in
+    omega (
+      arith,
+      offset-small c.read_table-t.ensures
+          (all-at Byte s (λ i h. (c.shared_slice_known-1.given i).fits)),
+    )
+
+pub returns-then-reply-ne0 : goal.returns-then-reply-ne0
+returns-then-reply-ne0 c =
+    table_refuses _ _ _ _ _ (reply_refuses c.read_table-t.ensures c.if-reply-ne0.true)
+    c.refused.ensures
+
+pub returns-then-bound-gt255 : goal.returns-then-bound-gt255
+returns-then-bound-gt255 c = bound_refuses _ _ _ _ _ (accepted (goal.at.returns-then-bound-gt255 c).Else-reply-ne0) c.if-bound-gt255.true c.refused-then-bound-gt255.ensures
+
+pub overflow_add-count-2 : goal.overflow_add-count-2
+overflow_add-count-2 c = omega (arith, few (goal.at.overflow_add-count-2 c).Else-reply-ne0)
+
+pub overflow_mul-count : goal.overflow_mul-count
+overflow_mul-count c = omega (arith, statements (goal.at.overflow_mul-count c).Else-reply-ne0 c.args.bound c.if-bound-gt255.false)
+
+pub overflow_add-count-3 : goal.overflow_add-count-3
+overflow_add-count-3 c =
+    omega (arith, statements (goal.at.overflow_add-count-3 c).Else-reply-ne0 c.args.bound c.if-bound-gt255.false)
+
+pub returns-then-count-gt4096 : goal.returns-then-count-gt4096
+returns-then-count-gt4096 c =
+    count_refuses _ _ _ _ _ (accepted (goal.at.returns-then-count-gt4096 c).Else-reply-ne0) c.if-bound-gt255.false _ (count-is (goal.at.returns-then-count-gt4096 c).Else-reply-ne0) c.if-count-gt4096.true c.refused-then-count-gt4096.ensures
+
+pub trace_size-total-requires : goal.trace_size-total-requires
+trace_size-total-requires c = (c.if-bound-gt255.false, ready (goal.at.trace_size-total-requires c).Else-reply-ne0)
+
+pub returns-then-total-gt65535 : goal.returns-then-total-gt65535
+returns-then-total-gt65535 c =
+    size_refuses _ _ _ _ _ (accepted (goal.at.returns-then-total-gt65535 c).Else-reply-ne0) c.if-bound-gt255.false _ (count-is (goal.at.returns-then-total-gt65535 c).Else-reply-ne0)
+    c.if-count-gt4096.false _ c.trace_size-total.ensures c.if-total-gt65535.true
+    c.refused-then-total-gt65535.ensures
+
+pub returns-then-out-total : goal.returns-then-out-total
+returns-then-out-total c =
+    room_refuses _ _ _ _ _ (accepted (goal.at.returns-then-out-total c).Else-reply-ne0) c.if-bound-gt255.false _ (count-is (goal.at.returns-then-out-total c).Else-reply-ne0)
+    c.if-count-gt4096.false _ c.trace_size-total.ensures
+    c.if-total-gt65535.false c.if-out-total.true c.refused-then-out-total.ensures
+
+pub write_all-requires : goal.write_all-requires
+write_all-requires c = (
+  ready (goal.at.write_all-requires c).Else-reply-ne0,
+  c.if-bound-gt255.false,
+  refl,
+  c.if-count-gt4096.false,
+  c.trace_size-total.ensures,
+  c.if-out-total.false,
+)
+
+pub returns : goal.returns
+returns c =
+    trace_written _ _ _ _ _ (accepted (goal.at.returns c).Else-reply-ne0) c.if-bound-gt255.false _ (count-is (goal.at.returns c).Else-reply-ne0) c.if-count-gt4096.false _ c.trace_size-total.ensures c.if-total-gt65535.false c.if-out-total.false
+    c.write_all.ensures
