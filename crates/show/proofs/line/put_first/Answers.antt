@@ -1,0 +1,26 @@
+-- S has at most two digits, so the line fits.
+use borrow.Author.Rules.{rules}
+use native.Mathlib.Omega.{arith}
+use Rattle.file.specs.File.{input_room}
+use Rattle.write.specs.SpliceLaws.{◌then◌}
+use Rattle.write.specs.DecimalLaws.{two_digits}
+use Rattle.show.proofs.line.put_first.Goals as goal
+
+pub overflow_cast-inputs : goal.overflow_cast-inputs
+unfolding input_room
+overflow_cast-inputs c = search rules
+
+pub returns : goal.returns
+unfolding input_room
+returns c = (
+  (((c.fit_part-a.ensures then c.fit_decimal-b.ensures.0) then c.fit_part-c.ensures) then c.fit_decimal-d.ensures.0) then c.fit_part.ensures,
+  omega (
+    arith,
+    two_digits c.args.inputs (omega (arith, c.requires.0)),
+    c.fit_part-a.ensures.next,
+    c.fit_decimal-b.ensures.0.next,
+    c.fit_part-c.ensures.next,
+    c.fit_decimal-d.ensures.1,
+    c.fit_part.ensures.next,
+  ),
+)
