@@ -4,11 +4,7 @@ use mathlib.Core.Path.{sym, subst}
 use lib.ListN.{length-replicate}
 use Rattle.print_slice.specs.Buffers.{HoldsEvery}
 use Rattle.print_slice.specs.BuffersLaws.{room_for_all}
-use Rattle.print_slice.proofs.text_room.Statement.{statement}
-use Rattle.print_slice.proofs.text_room.Tie as tie
+use Rattle.print_slice.proofs.text_room.Goals as goal
 
-returns : tie.Need-returns
+pub returns : goal.returns
 returns c = subst HoldsEvery (sym (length-replicate {A = ℕ} 393210 0)) (room_for_all 393210 (omega arith))
-
-pub text-room-spec : {M : Type 1} → statement M
-text-room-spec = tie.close (tie.spec returns)

@@ -4,11 +4,7 @@ use mathlib.Core.Path.{sym, subst}
 use lib.ListN.{length-replicate}
 use Rattle.print_slice.specs.Buffers.{Decides}
 use Rattle.print_slice.specs.BuffersLaws.{enough-read}
-use Rattle.print_slice.proofs.input_room.Statement.{statement}
-use Rattle.print_slice.proofs.input_room.Tie as tie
+use Rattle.print_slice.proofs.input_room.Goals as goal
 
-returns : tie.Need-returns
+pub returns : goal.returns
 returns c = subst Decides (sym (length-replicate {A = ℕ} 65537 0)) (enough-read 65537 (omega arith))
-
-pub input-room-spec : {M : Type 1} → statement M
-input-room-spec = tie.close (tie.spec returns)
