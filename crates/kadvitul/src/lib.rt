@@ -1,4 +1,4 @@
-// The C interface: one number of an answer for each call. `include/kadvitul.h` declares it.
+// The calls of the C interface, one number of an answer for each. `kadvitul_c` exports them under these names.
 #![tactic(auto)]
 
 ghost use Rattle.std.specs.Prelude.{◌≡◌, ◌+◌, ◌/◌, ◌*◌, length};
@@ -51,167 +51,146 @@ fn judge_bytes(trace: &[u8], valuation: &[u8]) -> trace::Answer
 }
 
 // The version of the archive, which the header has too.
-#[unsafe(no_mangle)]
-pub extern "C" fn kadvitul_version() -> u32
+pub fn kadvitul_version() -> u32
     ensures { VersionGives result }
 {
     40000
 }
 
-#[unsafe(no_mangle)]
-pub extern "C" fn kadvitul_run_reply(rule: &[u8], bound: u64, valuation: &[u8]) -> u32
+pub fn kadvitul_run_reply(rule: &[u8], bound: u64, valuation: &[u8]) -> u32
     ensures { RunGives RunReply rule.now bound valuation.now result }
 {
     let a = run_bytes(rule, bound, valuation);
     a.reply
 }
 
-#[unsafe(no_mangle)]
-pub extern "C" fn kadvitul_run_offset(rule: &[u8], bound: u64, valuation: &[u8]) -> u32
+pub fn kadvitul_run_offset(rule: &[u8], bound: u64, valuation: &[u8]) -> u32
     ensures { RunGives RunOffset rule.now bound valuation.now result }
 {
     let a = run_bytes(rule, bound, valuation);
     a.offset
 }
 
-#[unsafe(no_mangle)]
-pub extern "C" fn kadvitul_run_verdict(rule: &[u8], bound: u64, valuation: &[u8]) -> u32
+pub fn kadvitul_run_verdict(rule: &[u8], bound: u64, valuation: &[u8]) -> u32
     ensures { RunGives RunVerdict rule.now bound valuation.now result }
 {
     let a = run_bytes(rule, bound, valuation);
     a.verdict
 }
 
-#[unsafe(no_mangle)]
-pub extern "C" fn kadvitul_run_place(rule: &[u8], bound: u64, valuation: &[u8]) -> u32
+pub fn kadvitul_run_place(rule: &[u8], bound: u64, valuation: &[u8]) -> u32
     ensures { RunGives RunPlace rule.now bound valuation.now result }
 {
     let a = run_bytes(rule, bound, valuation);
     a.place
 }
 
-#[unsafe(no_mangle)]
-pub extern "C" fn kadvitul_run_back_jumps(rule: &[u8], bound: u64, valuation: &[u8]) -> u32
+pub fn kadvitul_run_back_jumps(rule: &[u8], bound: u64, valuation: &[u8]) -> u32
     ensures { RunGives RunBackJumps rule.now bound valuation.now result }
 {
     let a = run_bytes(rule, bound, valuation);
     a.back_jumps
 }
 
-#[unsafe(no_mangle)]
-pub extern "C" fn kadvitul_judge_reply(trace: &[u8], valuation: &[u8]) -> u32
+pub fn kadvitul_judge_reply(trace: &[u8], valuation: &[u8]) -> u32
     ensures { JudgeGives JudgeReply trace.now valuation.now result }
 {
     let a = judge_bytes(trace, valuation);
     a.reply
 }
 
-#[unsafe(no_mangle)]
-pub extern "C" fn kadvitul_judge_offset(trace: &[u8], valuation: &[u8]) -> u32
+pub fn kadvitul_judge_offset(trace: &[u8], valuation: &[u8]) -> u32
     ensures { JudgeGives JudgeOffset trace.now valuation.now result }
 {
     let a = judge_bytes(trace, valuation);
     a.offset
 }
 
-#[unsafe(no_mangle)]
-pub extern "C" fn kadvitul_judge_verdict(trace: &[u8], valuation: &[u8]) -> u32
+pub fn kadvitul_judge_verdict(trace: &[u8], valuation: &[u8]) -> u32
     ensures { JudgeGives JudgeVerdict trace.now valuation.now result }
 {
     let a = judge_bytes(trace, valuation);
     a.verdict
 }
 
-#[unsafe(no_mangle)]
-pub extern "C" fn kadvitul_judge_place(trace: &[u8], valuation: &[u8]) -> u32
+pub fn kadvitul_judge_place(trace: &[u8], valuation: &[u8]) -> u32
     ensures { JudgeGives JudgePlace trace.now valuation.now result }
 {
     let a = judge_bytes(trace, valuation);
     a.place
 }
 
-#[unsafe(no_mangle)]
-pub extern "C" fn kadvitul_trace_reply(rule: &[u8], bound: u64, out: &mut [u8]) -> u32
+pub fn kadvitul_trace_reply(rule: &[u8], bound: u64, out: &mut [u8]) -> u32
     ensures { TraceGives TraceReply rule.now bound out.old out.new result }
 {
     let a = unwind::write_trace(rule, bound, out);
     a.reply
 }
 
-#[unsafe(no_mangle)]
-pub extern "C" fn kadvitul_trace_offset(rule: &[u8], bound: u64, out: &mut [u8]) -> u32
+pub fn kadvitul_trace_offset(rule: &[u8], bound: u64, out: &mut [u8]) -> u32
     ensures { TraceGives TraceOffset rule.now bound out.old out.new result }
 {
     let a = unwind::write_trace(rule, bound, out);
     a.offset
 }
 
-#[unsafe(no_mangle)]
-pub extern "C" fn kadvitul_trace_length(rule: &[u8], bound: u64, out: &mut [u8]) -> u32
+pub fn kadvitul_trace_length(rule: &[u8], bound: u64, out: &mut [u8]) -> u32
     ensures { TraceGives TraceLength rule.now bound out.old out.new result }
 {
     let a = unwind::write_trace(rule, bound, out);
     a.length
 }
 
-#[unsafe(no_mangle)]
-pub extern "C" fn kadvitul_slice_reply(trace: &[u8], out: &mut [u8]) -> u32
+pub fn kadvitul_slice_reply(trace: &[u8], out: &mut [u8]) -> u32
     ensures { SliceGives SliceReply trace.now out.old out.new result }
 {
     let a = slice::slice_trace(trace, out);
     a.reply
 }
 
-#[unsafe(no_mangle)]
-pub extern "C" fn kadvitul_slice_offset(trace: &[u8], out: &mut [u8]) -> u32
+pub fn kadvitul_slice_offset(trace: &[u8], out: &mut [u8]) -> u32
     ensures { SliceGives SliceOffset trace.now out.old out.new result }
 {
     let a = slice::slice_trace(trace, out);
     a.offset
 }
 
-#[unsafe(no_mangle)]
-pub extern "C" fn kadvitul_slice_length(trace: &[u8], out: &mut [u8]) -> u32
+pub fn kadvitul_slice_length(trace: &[u8], out: &mut [u8]) -> u32
     ensures { SliceGives SliceLength trace.now out.old out.new result }
 {
     let a = slice::slice_trace(trace, out);
     a.length
 }
 
-#[unsafe(no_mangle)]
-pub extern "C" fn kadvitul_slice_mask(trace: &[u8], out: &mut [u8]) -> u64
+pub fn kadvitul_slice_mask(trace: &[u8], out: &mut [u8]) -> u64
     ensures { SliceGives SliceMask trace.now out.old out.new result }
 {
     let a = slice::slice_trace(trace, out);
     a.mask
 }
 
-#[unsafe(no_mangle)]
-pub extern "C" fn kadvitul_slice_inputs(trace: &[u8], out: &mut [u8]) -> u32
+pub fn kadvitul_slice_inputs(trace: &[u8], out: &mut [u8]) -> u32
     ensures { SliceGives SliceInputs trace.now out.old out.new result }
 {
     let a = slice::slice_trace(trace, out);
     a.inputs
 }
 
-#[unsafe(no_mangle)]
-pub extern "C" fn kadvitul_script_reply(trace: &[u8], out: &mut [u8]) -> u32
+pub fn kadvitul_script_reply(trace: &[u8], out: &mut [u8]) -> u32
     ensures { ScriptGives ScriptReply trace.now out.old out.new result }
 {
     let a = script::write_script(trace, out);
     a.reply
 }
 
-#[unsafe(no_mangle)]
-pub extern "C" fn kadvitul_script_offset(trace: &[u8], out: &mut [u8]) -> u32
+pub fn kadvitul_script_offset(trace: &[u8], out: &mut [u8]) -> u32
     ensures { ScriptGives ScriptOffset trace.now out.old out.new result }
 {
     let a = script::write_script(trace, out);
     a.offset
 }
 
-#[unsafe(no_mangle)]
-pub extern "C" fn kadvitul_script_length(trace: &[u8], out: &mut [u8]) -> u32
+pub fn kadvitul_script_length(trace: &[u8], out: &mut [u8]) -> u32
     ensures { ScriptGives ScriptLength trace.now out.old out.new result }
 {
     let a = script::write_script(trace, out);
