@@ -16,7 +16,7 @@ N = 100000
 SEED ?=
 
 # the crates that the archive is made of, and their files
-parts = $(shell awk -F: '$$1 == "kadvitul" { print $$1 $$2 }' crates.txt)
+parts = kadvitul_c $(shell awk -F: '$$1 == "kadvitul_c staticlib" { print $$2 }' crates.txt)
 sources = $(shell find $(addprefix crates/,$(parts)) -name '*.rt' -o -name '*.antt')
 
 .DEFAULT_GOAL = help
@@ -47,14 +47,15 @@ lib: target/staticlib/libkadvitul.a
 
 target/staticlib/libkadvitul.a: crates.txt $(sources)
 	@command -v rt >/dev/null || { echo "make: the command rt is missing. Install the Rattle kit and put it on the PATH" >&2; exit 1; }
-	rt staticlib kadvitul
+	cd crates/kadvitul_c && rt lib
+	@mkdir -p target/staticlib && cp crates/kadvitul_c/out/libkadvitul_c.a $@
 
 fmt:
-	rt fmt
+	for crate in crates/*/; do (cd "$$crate" && rt fmt) || exit 1; done
 	cd host && cargo fmt
 
 mutants:
 	@tools/mutants
 
 clean:
-	rm -rf target host/target
+	rm -rf target host/target crates/*/out

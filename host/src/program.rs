@@ -1,4 +1,4 @@
-//! The slice printer, run as the program that `rt check print_slice` builds.
+//! The slice printer, run as the program that `make print` builds.
 
 use std::io;
 use std::path::Path;
@@ -29,7 +29,7 @@ pub fn find() -> Result<(), String> {
     if Path::new(PROGRAM).is_file() {
         return Ok(());
     }
-    Err("target/bin/print_slice is missing; `rt check print_slice` builds it".into())
+    Err("target/bin/print_slice is missing; `make print` builds it".into())
 }
 
 pub fn print_slice(input: &[u8]) -> Printed {
