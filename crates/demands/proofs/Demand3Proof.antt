@@ -29,7 +29,7 @@ use Rattle.expr.specs.Eval.{env_of}
 use Rattle.file.specs.Outcome.{Assume, Assert, Bound, Outcome, Ended, Failed, Lost, verdict, unsafe, place_of}
 use Rattle.file.specs.OutcomeLaws.{unsafe-verdict, unsafe-is}
 use Rattle.file.specs.File.{Head, header_inputs, header_count, Accepted}
-use Rattle.file.specs.EncodeLaws.{encode-length}
+use Rattle.file.proofs.EncodeLaws.{encode-length}
 use Rattle.file.specs.Shown.{listed}
 use Rattle.table.specs.declared.Answer as Ran
 use Rattle.table.specs.Table.{Instr}
@@ -47,15 +47,15 @@ use Rattle.trace.specs.AssertsLaws as Outcomes
 use Rattle.trace.specs.Answer as Judging
 use Rattle.trace.specs.Answer.{judge_answer}
 use Rattle.unwind.specs.Unwind.{unwind}
-use Rattle.unwind.specs.UnwindLaws.{unwind-count, unwind-ok, unwind-read}
-use Rattle.unwind.specs.SizeLaws.{records-size}
+use Rattle.unwind.proofs.UnwindLaws.{unwind-count, unwind-ok, unwind-read}
+use Rattle.unwind.proofs.SizeLaws.{records-size}
 use Rattle.unwind.specs.Gated.{shown_as}
-use Rattle.unwind.specs.AgreeLaws.{judge-unwind, judge-unwind-cut}
+use Rattle.unwind.proofs.AgreeLaws.{judge-unwind, judge-unwind-cut}
 use Rattle.unwind.specs.Answer.{trace_answer}
-use Rattle.unwind.specs.AnswerLaws.{IsTrace, trace_written, trace_read}
+use Rattle.unwind.proofs.AnswerLaws.{IsTrace, trace_written, trace_read}
 use Rattle.slice.specs.Slice.{slice}
 use Rattle.slice.specs.Mask.{input_mask}
-use Rattle.slice.specs.SliceLaws.{slice-alike, slice_fits, slice-read, slice-done}
+use Rattle.slice.proofs.SliceLaws.{slice-alike, slice_fits, slice-read, slice-done}
 use Rattle.slice.specs.MaskLaws.{mask-bit}
 use Rattle.slice.specs.Answer as Slicing
 use Rattle.slice.specs.Answer.{slice_answer}

@@ -21,7 +21,7 @@ use Rattle.expr.specs.Token.{Token, Const, Symbol, Un, Bin, Ite, symbol_code, sy
 use Rattle.expr.specs.Token.{operator, read_token}
 use Rattle.expr.specs.TokenLaws.{IsOperator, operator-is, operator-count}
 use Rattle.expr.specs.Expr.{depth_limit, pops, after, fits, Parsed, Whole, Breaks, also, on_token, parse_from, parse}
-use Rattle.expr.specs.ExprLaws.{fits-is, fits_const, fits-symbol, fits-operator, on-token, token-at, end-at}
+use Rattle.expr.proofs.ExprLaws.{fits-is, fits_const, fits-symbol, fits-operator, on-token, token-at, end-at}
 use Rattle.expr.specs.Shown.{popped, pops_of}
 use Rattle.expr.proofs.Reading.{pops-by_range, pops-ite, constant-there, constant-short, symbol-there, symbol-short, operator-there}
 use Rattle.demands.specs.Expression.{symbol_byte, symbol_bytes, most_words, Keeps, constant, symbol, unary, binary, ite, Kept, nothing}

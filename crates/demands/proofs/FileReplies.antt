@@ -15,7 +15,7 @@ use Rattle.file.specs.File.{Head, inputs_limit, header_version, header_size, hea
 use Rattle.file.specs.File.{Refusal, AtRecord, AtToken, Good, Bad, frame, Records, Read, Stop, Input, Accepted, Refused, record_of}
 use Rattle.file.specs.File.{before, records, finish, read_file}
 use Rattle.file.specs.Shown.{fault_at}
-use Rattle.file.specs.FileLaws.{records-good, records_bad, records-end, records-spare, header_is, file-refused, file-read}
+use Rattle.file.proofs.FileLaws.{records-good, records_bad, records-end, records-spare, header_is, file-refused, file-read}
 use Rattle.table.specs.Table.{instr, read_table}
 use Rattle.trace.specs.Trace.{at_first, see, stmt, read_trace}
 use Rattle.demands.specs.Replies.{record_at, length_at, known, limit, Call, file_of, bytes_of, Framing, Ruling, Wording, Row, Short}

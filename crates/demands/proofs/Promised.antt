@@ -1,5 +1,5 @@
 -- All that is promised, from the theorems beside this file.
-use Rattle.script.specs.RoomLaws as Room
+use Rattle.script.proofs.RoomLaws as Room
 use Rattle.demands.specs.Promised.{Promised}
 use Rattle.demands.proofs.RepliesProof.{run_demand1, judge_demand1, write_trace_demand1, slice_trace_demand1, write_script_demand1}
 use Rattle.demands.proofs.ExpressionProof as Wording

@@ -18,7 +18,7 @@ use Rattle.table.specs.Run.{run}
 use Rattle.table.specs.BoundLaws.{run-raised}
 use Rattle.table.specs.Answer.{refusal, answer_of, answered, run_answer}
 use Rattle.unwind.specs.Answer.{trace_answer}
-use Rattle.unwind.specs.AnswerLaws.{trace_written}
+use Rattle.unwind.proofs.AnswerLaws.{trace_written}
 use Rattle.demands.specs.Valuation.{Handed, ran_with, judged_with}
 use Rattle.demands.specs.Demand3.{RunUnsafeAt, UnsafeAt}
 use Rattle.demands.specs.Raising.{RunsRaised, TracesRaised, Settled}

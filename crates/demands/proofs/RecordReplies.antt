@@ -20,8 +20,8 @@ use Rattle.expr.specs.Expr.{below, Parsed, Whole, Breaks, parse}
 use Rattle.file.specs.Outcome.{Kind, Assume, Assert, Bound}
 use Rattle.file.specs.File.{header_version, header_inputs, header_count, head_of, AtRecord, AtToken, Body, Good, Bad, field, rule, holding}
 use Rattle.file.specs.File.{frame, record_of}
-use Rattle.file.specs.FileLaws.{frame-there, record-framed, record_unframed, record-good, field_there, field_missing}
-use Rattle.file.specs.RecordLaws as RecordLaws
+use Rattle.file.proofs.FileLaws.{frame-there, record-framed, record_unframed, record-good, field_there, field_missing}
+use Rattle.file.proofs.RecordLaws as RecordLaws
 use Rattle.table.specs.Table as TableSpec
 use Rattle.table.specs.Table.{Instr, instr}
 use Rattle.table.specs.TableLaws as TableLaws

@@ -24,19 +24,19 @@ use Rattle.trace.specs.Judge.{judge}
 use Rattle.trace.specs.Answer.{judge_answer}
 use Rattle.trace.specs.Past.{values_past, OfWords}
 use Rattle.unwind.specs.Unwind.{unwind}
-use Rattle.unwind.specs.UnwindLaws.{unwind-ok}
+use Rattle.unwind.proofs.UnwindLaws.{unwind-ok}
 use Rattle.unwind.specs.Answer.{trace_answer}
-use Rattle.unwind.specs.AnswerLaws.{IsTrace, trace_written}
+use Rattle.unwind.proofs.AnswerLaws.{IsTrace, trace_written}
 use Rattle.slice.specs.Slice.{slice}
-use Rattle.slice.specs.SliceLaws.{slice-ok}
+use Rattle.slice.proofs.SliceLaws.{slice-ok}
 use Rattle.script.specs.Smt.{satisfies}
 use Rattle.script.specs.Script.{script_of, inputs_of}
-use Rattle.script.specs.ScriptLaws.{inputs-length, inputs-words, model_violates, sat_iff}
+use Rattle.script.proofs.ScriptLaws.{inputs-length, inputs-words, model_violates, sat_iff}
 use Rattle.script.specs.Scope.{WellScoped}
 use Rattle.script.specs.ScriptText.{text_of}
 use Rattle.script.specs.Answer.{script_answer}
-use Rattle.script.specs.BytesLaws.{script_accepted, script_done, script_bytes, script_well_scoped, script_judges, model_judged-unsafe}
-use Rattle.script.specs.BytesLaws.{script_sat}
+use Rattle.script.proofs.BytesLaws.{script_accepted, script_done, script_bytes, script_well_scoped, script_judges, model_judged-unsafe}
+use Rattle.script.proofs.BytesLaws.{script_sat}
 use Rattle.demands.specs.Solver.{asked_by, AsksFor, Violated, Posed, Fails, Asks, Solver}
 use Rattle.demands.proofs.Demand3Proof.{read_back, slice_back, slice-answer, run-done, run-alike, slice_as_run}
 

@@ -5,7 +5,7 @@ use mathlib.Core.Logic.{◌↔◌}
 use mathlib.Core.List.{List}
 use lib.ListN.{length, get_or}
 use Rattle.file.specs.File.{header_inputs}
-use Rattle.file.specs.WordsLaws.{words-at}
+use Rattle.file.proofs.WordsLaws.{words-at}
 use Rattle.table.specs.Answer.{run_answer}
 use Rattle.trace.specs.Answer.{judge_answer}
 use Rattle.kadvitul.specs.InterfaceLaws.{as_words, as_words-length, as_words-right, run_as_words, judge_as_words}

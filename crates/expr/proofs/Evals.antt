@@ -3,7 +3,7 @@ use Rattle.std.proofs.Common.{◌≡◌, ℕ, ◌+◌, ◌-◌, ◌<◌, ◌≤�
 use Rattle.expr.specs.declared.File.{File}
 use Rattle.expr.specs.Token.{Token, read_token}
 use Rattle.expr.specs.Expr.{below, pops, Parsed, Whole, Breaks, also, parse_from, parse}
-use Rattle.expr.specs.ExprLaws.{depth_limit_le, fits-is, end-at}
+use Rattle.expr.proofs.ExprLaws.{depth_limit_le, fits-is, end-at}
 use Rattle.expr.specs.Eval.{Env, env_of, step}
 use Rattle.expr.specs.Shown.{popped, turned, goes, is_whole, stack_of, size_of, stepped, Stepped, value_from, value_of}
 use Rattle.expr.proofs.Turns.{Went, whole-goes, whole-went}

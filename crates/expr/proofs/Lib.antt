@@ -4,3 +4,5 @@ pub mod Steps
 pub mod Operands
 pub mod Evals
 pub mod Rests
+pub mod ExprLaws
+pub mod EvalLaws

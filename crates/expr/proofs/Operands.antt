@@ -9,7 +9,7 @@ use Rattle.expr.specs.declared.token.Read.TheVariants as R
 use Rattle.expr.specs.declared.eval.Operand.{Operand}
 use Rattle.expr.specs.Number.{number_of}
 use Rattle.expr.specs.Token.{Token, Const, Symbol, Un, Bin, Ite, symbol_code, symbol_width, operator, read_token}
-use Rattle.expr.specs.ExprLaws.{depth_limit_le}
+use Rattle.expr.proofs.ExprLaws.{depth_limit_le}
 use Rattle.expr.specs.Eval.{Env}
 use Rattle.expr.specs.Shown.{shown_token, read_size, popped, pops_of, turned, goes, size_of, operand_of, Stepped}
 use Rattle.expr.proofs.Reading.{shown-nothing, shown-constant, shown-symbol, shown-operator}

@@ -13,7 +13,7 @@ use Rattle.expr.specs.Token.{Token, Const, Symbol, Un, Bin, Ite, symbol_code, sy
 use Rattle.expr.specs.Token.{operator, read_token}
 use Rattle.expr.specs.TokenLaws.{IsOperator, operator-coded, operator-is}
 use Rattle.expr.specs.Expr.{pops}
-use Rattle.expr.specs.ExprLaws.{operator-pops}
+use Rattle.expr.proofs.ExprLaws.{operator-pops}
 use Rattle.expr.specs.Shown.{shown_token, read_size, popped, pops_of, size_of}
 
 -- ---- operators by what they pop

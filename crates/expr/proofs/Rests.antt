@@ -5,7 +5,7 @@ use mathlib.Core.Option.{some}
 use Rattle.expr.specs.declared.File.{File}
 use Rattle.expr.specs.Token.{Token, read_token}
 use Rattle.expr.specs.Expr.{below, after, Parsed, Whole, Breaks, also, parse_from, parse}
-use Rattle.expr.specs.ExprLaws.{end-at}
+use Rattle.expr.proofs.ExprLaws.{end-at}
 use Rattle.expr.specs.Shown.{is_whole, tokens_of, size_of, Stands}
 use Rattle.expr.proofs.Turns.{Went, whole-goes, whole-went}
 

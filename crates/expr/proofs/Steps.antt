@@ -11,7 +11,7 @@ use Rattle.expr.specs.Number.{number_of}
 use Rattle.expr.specs.Token.{Token, Const, Symbol, Un, Bin, Ite, symbol_code, symbol_width, operand_count, operator, read_token}
 use Rattle.expr.specs.TokenLaws.{operator-is, operator-ite, operator-count}
 use Rattle.expr.specs.Expr.{depth_limit, below, pops, after, fits}
-use Rattle.expr.specs.ExprLaws.{operator-pops, depth_limit_le, Fits, fits-is}
+use Rattle.expr.proofs.ExprLaws.{operator-pops, depth_limit_le, Fits, fits-is}
 use Rattle.expr.specs.Eval.{Env, step, push_unary, push_binary, push_ite}
 use Rattle.expr.specs.Shown.{shown_token, popped, pops_of, turned, goes, Stands, stack_of, unary_of, binary_of, size_of, nowhere, Stepped}
 use Rattle.expr.proofs.Reading.{pops-by_range, pops-of, shown-nothing, shown-symbol, constant-there, constant-enough, symbol-there}

@@ -10,7 +10,7 @@ use Rattle.expr.specs.declared.accept.After.TheVariants.{Stop, Next}
 use Rattle.expr.specs.Token.{Token, Const, Symbol, symbol_width, operand_count, read_token}
 use Rattle.expr.specs.TokenLaws.{operator-count, token-there}
 use Rattle.expr.specs.Expr.{depth_limit, pops, after, fits, Parsed, Whole, Breaks, also, on_token, parse_from}
-use Rattle.expr.specs.ExprLaws.{operator-reads, Fits, fits-is, is-fits, token-at, end-at}
+use Rattle.expr.proofs.ExprLaws.{operator-reads, Fits, fits-is, is-fits, token-at, end-at}
 use Rattle.expr.specs.Shown.{shown_token, pops_of, turned, checked, goes, is_whole}
 use Rattle.expr.proofs.Reading.{shown-nothing, shown-constant, shown-symbol, shown-operator, pops-of}
 

@@ -7,9 +7,7 @@ pub mod NumberLaws
 pub mod Token
 pub mod TokenLaws
 pub mod Expr
-pub mod ExprLaws
 pub mod Eval
-pub mod EvalLaws
 pub mod Cases
 -- What the code's values mean in these terms.
 pub mod Shown

@@ -1,12 +1,6 @@
 pub mod File
-pub mod FileLaws
-pub mod EncodeLaws
-pub mod RecordLaws
-pub mod WalkLaws
-pub mod ReadingLaws
 pub mod Outcome
 pub mod OutcomeLaws
 pub mod Words
-pub mod WordsLaws
 pub mod Cases
 pub mod Shown

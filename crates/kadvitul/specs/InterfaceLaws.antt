@@ -9,9 +9,9 @@ use Rattle.std.proofs.Math.Seq.{length-sets}
 use Rattle.std.proofs.lemmas.List.Edits.{sets}
 use Rattle.std.proofs.lemmas.Bool.{eqb-false}
 use Rattle.file.specs.File.{input_room, header_version, header_inputs, Input, Accepted, Refused}
-use Rattle.file.specs.FileLaws.{inputs-room, header_is, file-is}
+use Rattle.file.proofs.FileLaws.{inputs-room, header_is, file-is}
 use Rattle.file.specs.Words.{words_of}
-use Rattle.file.specs.WordsLaws.{words-length, words-front}
+use Rattle.file.proofs.WordsLaws.{words-length, words-front}
 use Rattle.table.specs.Table.{Instr, instrs, is_table, read_table}
 use Rattle.table.specs.TableLaws.{table-inputs}
 use Rattle.table.specs.Run.{run}

@@ -12,7 +12,7 @@ use Rattle.expr.specs.Number.{Byte}
 use Rattle.expr.specs.Token.{operator, read_token}
 use Rattle.expr.specs.Expr.{fits, parse_from}
 use Rattle.file.specs.File.{header_reply, frame, record_of, records, read_file, encode}
-use Rattle.file.specs.FileLaws.{file-refused}
+use Rattle.file.proofs.FileLaws.{file-refused}
 use Rattle.table.specs.Table.{instr, instrs, read_table}
 use Rattle.trace.specs.Trace.{stmt, read_trace}
 use Rattle.unwind.specs.Places.{places}

@@ -5,3 +5,7 @@ pub mod Pieces
 pub mod Lasts
 pub mod Wholes
 pub mod Answers
+pub mod ScriptLaws
+pub mod BytesLaws
+pub mod RoomLaws
+pub mod ScopeLaws

@@ -3,13 +3,9 @@
 pub mod Smt
 pub mod SmtLaws
 pub mod Script
-pub mod ScriptLaws
 pub mod Scope
-pub mod ScopeLaws
 pub mod ScriptText
 pub mod Answer
-pub mod BytesLaws
-pub mod RoomLaws
 pub mod Cases
 -- What the code's values mean in these terms.
 pub mod Shown

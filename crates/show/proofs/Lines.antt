@@ -14,7 +14,7 @@ use Rattle.expr.specs.Expr.{below, parse}
 use Rattle.expr.specs.Shown.{tokens_of}
 use Rattle.file.specs.File.{input_room, header_version, header_size, header_inputs, header_count, Good}
 use Rattle.file.specs.Shown.{is_good, is_accepted, listed}
-use Rattle.file.specs.FileLaws.{head-long}
+use Rattle.file.proofs.FileLaws.{head-long}
 use Rattle.trace.specs.Trace.{read_trace}
 use Rattle.trace.specs.Shown.{test_kind, symbol_room, loose, held, expr_part, expr_of}
 use Rattle.trace.proofs.Held.{Held}

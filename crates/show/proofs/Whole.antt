@@ -18,9 +18,9 @@ use Rattle.trace.specs.EncodeLaws.{encode-read}
 use Rattle.write.specs.Splice.{over, Wrote}
 use Rattle.write.specs.SpliceLaws.{splice-over}
 use Rattle.unwind.specs.Answer.{trace_answer}
-use Rattle.unwind.specs.AnswerLaws.{trace_written, trace_read}
+use Rattle.unwind.proofs.AnswerLaws.{trace_written, trace_read}
 use Rattle.slice.specs.Slice.{slice}
-use Rattle.slice.specs.SliceLaws.{slice_fits, slice-accepted, slice-done}
+use Rattle.slice.proofs.SliceLaws.{slice_fits, slice-accepted, slice-done}
 use Rattle.slice.specs.Answer.{slice_of, slice_answer}
 use Rattle.show.specs.Text.{refusal_text, trace_text, sliced_text, traced_text, printed}
 use Rattle.show.specs.declared.Answer.{Answer}

@@ -11,14 +11,14 @@ use Rattle.expr.specs.Word.{Unary, Not, Neg, Zero, Binary, Add, Sub, Mul, Udiv, 
 use Rattle.expr.specs.Token.{Token, Const, Symbol, Un, Bin, Ite, token_bytes, expr_bytes}
 use Rattle.file.specs.Outcome.{Kind, Assume, Assert, Bound}
 use Rattle.file.specs.File.{Head, input_room, Input, Accepted, Refused, record_bytes, records_bytes}
-use Rattle.file.specs.FileLaws.{head-long}
-use Rattle.file.specs.EncodeLaws.{encode-length}
+use Rattle.file.proofs.FileLaws.{head-long}
+use Rattle.file.proofs.EncodeLaws.{encode-length}
 use Rattle.table.specs.Table.{Instr, read_table}
 use Rattle.table.specs.TableLaws.{table-ok}
 use Rattle.trace.specs.Trace.{Stmt, Assign, Test, stmt_bytes, trace_head, encode_trace}
 use Rattle.unwind.specs.Unwind.{unwind}
 use Rattle.slice.specs.Slice.{slice}
-use Rattle.slice.specs.SliceLaws.{slice_fits}
+use Rattle.slice.proofs.SliceLaws.{slice_fits}
 use Rattle.write.specs.Ascii.{ascii}
 use Rattle.write.specs.Decimal.{decimal}
 use Rattle.write.specs.DecimalLaws.{ten_digits, two_digits}

@@ -11,19 +11,19 @@ use Rattle.expr.specs.Lists.{All, all_take, both_and}
 use Rattle.expr.specs.Number.{Byte}
 use Rattle.file.specs.Outcome.{Bound}
 use Rattle.file.specs.File.{Head, header_version, Input, Accepted, Refused}
-use Rattle.file.specs.FileLaws.{file-refused}
-use Rattle.file.specs.ReadingLaws.{too_long}
+use Rattle.file.proofs.FileLaws.{file-refused}
+use Rattle.file.proofs.ReadingLaws.{too_long}
 use Rattle.table.specs.Table.{Instr, instrs, is_table, read_table}
 use Rattle.table.specs.TableLaws.{IsTable, table-ok, table-refused_positive}
 use Rattle.trace.specs.Trace.{Stmt, read_trace, trace_head, encode_trace}
 use Rattle.trace.specs.TraceLaws.{trace_short}
 use Rattle.trace.specs.EncodeLaws.{encode-read, room-written, trace_known}
 use Rattle.unwind.specs.Unwind.{unwind}
-use Rattle.unwind.specs.UnwindLaws.{unwind-ok, unwind-accepted}
+use Rattle.unwind.proofs.UnwindLaws.{unwind-ok, unwind-accepted}
 use Rattle.unwind.specs.Answer as Tracing
 use Rattle.unwind.specs.Answer.{answered, trace_answer}
 use Rattle.slice.specs.Slice.{slice}
-use Rattle.slice.specs.SliceLaws.{slice_fits, slice-read, slice-done}
+use Rattle.slice.proofs.SliceLaws.{slice_fits, slice-read, slice-done}
 use Rattle.slice.specs.Answer as Slicing
 use Rattle.slice.specs.Answer.{slice_answer}
 use Rattle.show.specs.Text.{refusal_text, slice_text, trace_text, sliced_text, traced_text, printed}

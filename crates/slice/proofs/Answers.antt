@@ -12,7 +12,7 @@ use borrow.Author.Tests.{le-leb, lt-leb}
 use Rattle.expr.specs.Lists.{All}
 use Rattle.expr.specs.Number.{Byte}
 use Rattle.file.specs.File.{Head, header_size, header_inputs, head_of, header, Accepted, Refused, records_bytes, encode}
-use Rattle.file.specs.EncodeLaws.{encode-length}
+use Rattle.file.proofs.EncodeLaws.{encode-length}
 use Rattle.file.specs.Shown.{is_accepted, listed}
 use Rattle.trace.specs.Trace.{Stmt, read_trace, stmt_bytes, encode_trace, reads_trace}
 use Rattle.write.specs.Splice.{Wrote, over}
@@ -20,7 +20,7 @@ use Rattle.write.specs.SpliceLaws.{splice-over, ◌then◌, wrote_as, wrote-leng
 use Rattle.slice.specs.declared.Answer.{Answer}
 use Rattle.slice.specs.declared.back.Kept.{Kept}
 use Rattle.slice.specs.Slice.{slice}
-use Rattle.slice.specs.SliceLaws.{slice_smaller}
+use Rattle.slice.proofs.SliceLaws.{slice_smaller}
 use Rattle.slice.specs.Mask.{mask_of, input_mask}
 use Rattle.slice.specs.MaskLaws.{mask-same}
 use Rattle.slice.specs.Answer.{refusal, slice_of, answered, slice_answer, numbers, SliceWritten}

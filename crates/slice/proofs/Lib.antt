@@ -6,3 +6,5 @@ pub mod Statements
 pub mod Walk
 pub mod Copies
 pub mod Answers
+pub mod SliceLaws
+pub mod KeptLaws

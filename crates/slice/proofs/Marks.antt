@@ -15,7 +15,7 @@ use borrow.Author.Tests.{eqb-true, eqb-false, eq-eqb, ne_eqb}
 use Rattle.expr.specs.Word.{test, bit}
 use Rattle.expr.specs.WordLaws.{or_number-bit}
 use Rattle.expr.specs.OperatorLaws.{moved_bit, bit_moved_in}
-use Rattle.file.specs.FileLaws.{same_everywhere}
+use Rattle.file.proofs.FileLaws.{same_everywhere}
 use Rattle.slice.specs.Shown.{in_set, room_in}
 
 pub in_clear : (n x : ℕ) → in_set (replicate n 0) x ≡ false

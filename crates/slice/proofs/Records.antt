@@ -18,8 +18,8 @@ use Rattle.expr.specs.Shown.{tokens_of}
 use Rattle.file.specs.Outcome.{Assume, Assert, Bound}
 use Rattle.file.specs.File.{Body, Good, Bad, frame, record_bytes}
 use Rattle.file.specs.Shown.{rest_of}
-use Rattle.file.specs.RecordLaws.{read-body, body-length}
-use Rattle.file.specs.EncodeLaws.{record_same}
+use Rattle.file.proofs.RecordLaws.{read-body, body-length}
+use Rattle.file.proofs.EncodeLaws.{record_same}
 use Rattle.trace.specs.Trace.{Stmt, Assign, Test, see, stmt, stmt_bytes}
 use Rattle.trace.specs.EncodeLaws.{stmt-same}
 use Rattle.trace.specs.Shown.{test_kind, symbol_room, loose, held, expr_part, expr_of}

@@ -10,14 +10,14 @@ use Rattle.expr.specs.Lists.{All}
 use Rattle.expr.specs.Number.{Byte}
 use Rattle.file.specs.File.{Body, Good, Input, Accepted, Refused, record_bytes, records_bytes}
 use Rattle.file.specs.Shown.{is_accepted, listed}
-use Rattle.file.specs.EncodeLaws.{encode-length}
+use Rattle.file.proofs.EncodeLaws.{encode-length}
 use Rattle.trace.specs.Trace.{Stmt, Assign, Test, read_trace, stmt_bytes, reads_trace}
 use Rattle.trace.specs.TraceLaws.{trace_short}
 use Rattle.trace.specs.EncodeLaws.{encode-read}
 use Rattle.slice.specs.declared.back.Kept.{Kept}
 use Rattle.trace.specs.Asserts.{is_assert, has_assert}
 use Rattle.slice.specs.Slice.{keep, slice}
-use Rattle.slice.specs.SliceLaws.{slice_shorter, slice_smaller}
+use Rattle.slice.proofs.SliceLaws.{slice_shorter, slice_smaller}
 use Rattle.slice.specs.Shown as Shown
 use Rattle.slice.specs.Shown.{in_set, reads_in, keep_stmt, keep_in, asserts_in, Stepped, WalkedBack}
 

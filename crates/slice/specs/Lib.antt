@@ -1,7 +1,5 @@
 -- What a reader must believe, beside document 01; each definition has its laws beside it.
 pub mod Slice
-pub mod SliceLaws
-pub mod KeptLaws
 pub mod Mask
 pub mod MaskLaws
 pub mod Answer

@@ -12,8 +12,8 @@ use Rattle.expr.specs.Number.{Byte}
 use Rattle.expr.specs.Eval.{env_of}
 use Rattle.file.specs.File.{Head, header_inputs, header_count, head_of, header_reply, Body, Accepted, Refused}
 use Rattle.file.specs.Shown.{listed}
-use Rattle.file.specs.FileLaws.{Header}
-use Rattle.file.specs.ReadingLaws as Reading
+use Rattle.file.proofs.FileLaws.{Header}
+use Rattle.file.proofs.ReadingLaws as Reading
 use Rattle.file.specs.declared.Reading.{Reading}
 use Rattle.table.specs.Table.{Instr, instr, is_table, read_table}
 use Rattle.table.specs.TableLaws.{instr-low}

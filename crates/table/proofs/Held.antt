@@ -13,7 +13,7 @@ use Rattle.expr.specs.Expr.{below, Whole, parse}
 use Rattle.file.specs.Outcome.{Kind, Assume, Assert}
 use Rattle.file.specs.File.{Body, Good, Bad, frame, record_of}
 use Rattle.file.specs.Shown.{is_good, kind_of, rest_of}
-use Rattle.file.specs.RecordLaws.{read-body, body-length, body_some, body-inside, body-part, body-kind, body-number}
+use Rattle.file.proofs.RecordLaws.{read-body, body-length, body_some, body-inside, body-part, body-kind, body-number}
 use Rattle.table.specs.Table.{Instr, Assign, Test, IfThenGoto, instr}
 use Rattle.table.specs.TableLaws.{Says, says-assign, says-assume, says-assert, says_goto, says}
 use Rattle.table.specs.Shown.{expr_start, expr_part, expr_of}

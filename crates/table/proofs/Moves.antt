@@ -13,7 +13,7 @@ use Rattle.expr.specs.declared.File.TheVariants.{Table}
 use Rattle.expr.specs.Number.{number_of}
 use Rattle.expr.specs.Expr.{below, Whole, parse}
 use Rattle.expr.specs.Eval.{Env, env_of, value}
-use Rattle.expr.specs.EvalLaws.{update-set, value-whole}
+use Rattle.expr.proofs.EvalLaws.{update-set, value-whole}
 use Rattle.expr.specs.Shown.{value_of}
 use Rattle.file.specs.Outcome.{Bound, Failed}
 use Rattle.file.specs.File.{Body, record_of}

@@ -13,7 +13,7 @@ use Rattle.expr.specs.Eval.{env_of}
 use Rattle.file.specs.Outcome.{verdict, place_of}
 use Rattle.file.specs.File.{Head, header_size, header_count, head_of, after_header, Good, Read, record_of, Input, Accepted, Refused}
 use Rattle.file.specs.Shown.{offsets_in, is_accepted, listed}
-use Rattle.file.specs.FileLaws.{IsFile, file-is}
+use Rattle.file.proofs.FileLaws.{IsFile, file-is}
 use Rattle.table.specs.declared.steps.Move.{Move}
 use Rattle.table.specs.declared.steps.Move.TheVariants as M
 use Rattle.table.specs.Table.{Instr, instr, instrs, is_table, read_table}

@@ -6,7 +6,7 @@ use Rattle.expr.specs.Lists.{All, all_drop}
 use Rattle.expr.specs.Word.{Word, truthy}
 use Rattle.expr.specs.declared.File.TheVariants.{Table}
 use Rattle.expr.specs.Eval.{Env, env_of, update, value}
-use Rattle.expr.specs.EvalLaws.{value_word}
+use Rattle.expr.proofs.EvalLaws.{value_word}
 use Rattle.file.specs.Outcome.{Kind, Bound, Failed, Lost}
 use Rattle.table.specs.Table.{Instr, Assign, Test, IfThenGoto}
 use Rattle.table.specs.TableLaws.{InstrOk}

@@ -16,7 +16,7 @@ use Rattle.file.specs.Outcome.{Kind}
 use Rattle.file.specs.File.{AtRecord, field, rule, holding}
 use Rattle.file.specs.declared.Fault.{Fault}
 use Rattle.file.specs.Shown.{fault_at, fault_of, expr_fault}
-use Rattle.file.specs.FileLaws.{field_there, field_missing, fault_holding}
+use Rattle.file.proofs.FileLaws.{field_there, field_missing, fault_holding}
 use Rattle.trace.specs.Trace.{Assign, Test, Seen, assign, assign_at, test_at, stmt}
 use Rattle.trace.specs.TraceLaws.{kind-assign, kind-test, kind-unknown, known-kind}
 use Rattle.trace.specs.Shown.{known_test}

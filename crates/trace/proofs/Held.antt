@@ -13,7 +13,7 @@ use Rattle.expr.specs.Expr.{Whole, parse}
 use Rattle.file.specs.Outcome.{Kind, Assume, Assert, Bound}
 use Rattle.file.specs.File.{Body, Good, Bad, frame, record_of}
 use Rattle.file.specs.Shown.{is_good, rest_of}
-use Rattle.file.specs.RecordLaws.{read-body, body-length, body_some, body-inside, body-part, body-kind, body-number}
+use Rattle.file.proofs.RecordLaws.{read-body, body-length, body_some, body-inside, body-part, body-kind, body-number}
 use Rattle.trace.specs.Trace.{Stmt, Assign, Test, Seen, stmt, kind_code}
 use Rattle.trace.specs.TraceLaws.{no_assign, Says, says-assign, says-test, says}
 use Rattle.trace.specs.Shown.{test_kind, expr_start, expr_part, expr_of}

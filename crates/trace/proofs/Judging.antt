@@ -12,7 +12,7 @@ use Rattle.expr.specs.Eval.{Env, env_of, value}
 use Rattle.file.specs.Outcome.{Outcome, Failed, verdict, place_of}
 use Rattle.file.specs.File.{Head, input_room, header_version, header_size, header_count, Good, Input, Accepted, Refused}
 use Rattle.file.specs.Shown.{offsets_in, is_accepted, listed}
-use Rattle.file.specs.FileLaws.{inputs-room, header_is, file-is, records-chain}
+use Rattle.file.proofs.FileLaws.{inputs-room, header_is, file-is, records-chain}
 use Rattle.trace.specs.declared.steps.Move.{Move}
 use Rattle.trace.specs.declared.steps.Move.TheVariants as M
 use Rattle.trace.specs.Trace.{Stmt, Assign, Test, at_first, see, stmt, stmts, is_trace, read_trace}

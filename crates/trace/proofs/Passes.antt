@@ -16,9 +16,9 @@ use Rattle.expr.specs.Shown.{is_whole, tokens_of}
 use Rattle.file.specs.File.{Head, input_room, header_version, header_size, header_inputs, header_count, after_header, header_reply, Good}
 use Rattle.file.specs.File.{frame, Read, Input, Accepted, Refused}
 use Rattle.file.specs.Shown.{is_good, is_accepted, listed}
-use Rattle.file.specs.FileLaws.{inputs-room, header_is, file-is, framed, record-good, Next, next-record, records-chain}
-use Rattle.file.specs.ReadingLaws.{short}
-use Rattle.file.specs.RecordLaws.{rest-length}
+use Rattle.file.proofs.FileLaws.{inputs-room, header_is, file-is, framed, record-good, Next, next-record, records-chain}
+use Rattle.file.proofs.ReadingLaws.{short}
+use Rattle.file.proofs.RecordLaws.{rest-length}
 use Rattle.trace.specs.Trace.{Stmt, Seen, at_first, see, stmt, stmts_from, stmts, is_trace, read_trace}
 use Rattle.trace.specs.TraceLaws.{symbol-room, Wider, record-wider, wider-after}
 use Rattle.trace.specs.Shown.{symbol_room, loose, held, expr_start, expr_part, expr_of}

@@ -12,8 +12,8 @@ use Rattle.expr.specs.Lists.{or_right, or_false}
 use Rattle.expr.specs.Token.{Token}
 use Rattle.expr.specs.Expr.{readable}
 use Rattle.file.specs.File.{input_room, header_size, Body, Good, frame, record_of}
-use Rattle.file.specs.FileLaws.{same_everywhere}
-use Rattle.file.specs.WalkLaws as Records
+use Rattle.file.proofs.FileLaws.{same_everywhere}
+use Rattle.file.proofs.WalkLaws as Records
 use Rattle.trace.specs.Trace.{Stmt, Assign, Test, Seen, see, stmt}
 use Rattle.trace.specs.TraceLaws.{symbol-room, assigned-below}
 use Rattle.trace.specs.Shown.{symbol_room, seen, unseen, least_after, mark, marked_by}

@@ -4,7 +4,7 @@ use Rattle.std.proofs.Common.{sym, ap, ap₂, ◌∙◌, subst, length-set}
 use Rattle.expr.specs.Lists.{or_left, or_right}
 use Rattle.expr.specs.Word.{truthy}
 use Rattle.expr.specs.Eval.{Env, env_of, update, value, reads}
-use Rattle.expr.specs.EvalLaws.{value_agree, update-set}
+use Rattle.expr.proofs.EvalLaws.{value_agree, update-set}
 use Rattle.file.specs.Outcome.{Outcome, Failed}
 use Rattle.trace.specs.Trace.{Stmt, Assign, Test, reads_trace}
 use Rattle.trace.specs.Judge.{judge}

@@ -7,7 +7,7 @@ use Rattle.expr.specs.Lists.{All, or_cases}
 use Rattle.expr.specs.Word.{Word}
 use Rattle.expr.specs.Token.{Token}
 use Rattle.expr.specs.Eval.{Env, env_of, update, value}
-use Rattle.expr.specs.EvalLaws.{update_same, update_other, reads_known, value_agree, value_word}
+use Rattle.expr.proofs.EvalLaws.{update_same, update_other, reads_known, value_agree, value_word}
 use Rattle.file.specs.File.{Head}
 use Rattle.trace.specs.Trace.{Stmt, Assign, Test, Seen, at_first, see}
 use Rattle.trace.specs.WellFormed.{ExprOk, StmtsOk}

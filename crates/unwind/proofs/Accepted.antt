@@ -8,8 +8,8 @@ use Rattle.expr.specs.Lists.{All}
 use Rattle.expr.specs.Number.{Byte}
 use Rattle.file.specs.File.{input_room, header_size, header_inputs, head_of, header_reply, Good, record_of}
 use Rattle.file.specs.Shown.{listed}
-use Rattle.file.specs.FileLaws.{header_is, file-is}
-use Rattle.file.specs.ReadingLaws.{short}
+use Rattle.file.proofs.FileLaws.{header_is, file-is}
+use Rattle.file.proofs.ReadingLaws.{short}
 use Rattle.table.specs.Table.{Instr, instr, instrs, is_table, read_table}
 use Rattle.table.specs.TableLaws.{InstrOk}
 use Rattle.table.specs.Shown.{Ready}

@@ -10,16 +10,16 @@ use lib.Dec.{leb}
 use borrow.Author.Tests.{le-leb, lt-leb}
 use Rattle.file.specs.Outcome.{Bound}
 use Rattle.file.specs.File.{Head, head_size, Accepted, Refused, header, record_bytes, records_bytes, encode}
-use Rattle.file.specs.EncodeLaws.{encode-length}
+use Rattle.file.proofs.EncodeLaws.{encode-length}
 use Rattle.table.specs.Table.{Instr, read_table}
 use Rattle.trace.specs.Trace.{Stmt, stmt_bytes, trace_version, trace_head, encode_trace}
 use Rattle.write.specs.Splice.{Wrote, over}
 use Rattle.write.specs.SpliceLaws.{◌then◌, wrote_as, splice-over}
 use Rattle.unwind.specs.Places.{places}
 use Rattle.unwind.specs.Unwind.{at_first, opening, unwind}
-use Rattle.unwind.specs.UnwindLaws.{unwind-count}
+use Rattle.unwind.proofs.UnwindLaws.{unwind-count}
 use Rattle.unwind.specs.Size.{trace_size}
-use Rattle.unwind.specs.SizeLaws.{unwind-size}
+use Rattle.unwind.proofs.SizeLaws.{unwind-size}
 use Rattle.unwind.specs.declared.Answer.{Answer}
 use Rattle.unwind.specs.Answer.{Traced, refusal, trace_of, answered, trace_answer, numbers, TraceWritten}
 use Rattle.unwind.specs.Shown.{current_of, newest_of}

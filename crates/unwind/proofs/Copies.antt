@@ -13,7 +13,7 @@ use Rattle.expr.specs.Number.{Byte}
 use Rattle.expr.specs.Token.{Const, Symbol}
 use Rattle.file.specs.Outcome.{Bound}
 use Rattle.file.specs.File.{header_inputs, Body, record_of, record_bytes, records_bytes}
-use Rattle.file.specs.EncodeLaws.{records-append}
+use Rattle.file.proofs.EncodeLaws.{records-append}
 use Rattle.file.specs.Shown.{is_good, listed}
 use Rattle.table.specs.Table.{Instr, instr, read_table}
 use Rattle.table.specs.Shown.{Ready}
@@ -25,8 +25,9 @@ use Rattle.write.specs.Splice.{Wrote}
 use Rattle.write.specs.SpliceLaws.{wrote_as, Ahead, ahead_start, ahead_step, ahead_end, ahead_room}
 use Rattle.unwind.specs.Places.{Set, Check, Jump, Exit, Place, At, end_of, action_in, copy_from, copies_from, places}
 use Rattle.unwind.specs.Unwind.{Newest, guarded, statement, statements, advance}
-use Rattle.unwind.specs.UnwindLaws.{after, statements-append, copy_count}
-use Rattle.unwind.specs.SizeLaws.{exit_size}
+use Rattle.unwind.specs.Unwind.{after}
+use Rattle.unwind.proofs.UnwindLaws.{statements-append, copy_count}
+use Rattle.unwind.proofs.SizeLaws.{exit_size}
 use Rattle.unwind.specs.declared.copy.Front.{Front}
 use Rattle.unwind.specs.Shown.{newest_of, place_of, Written}
 use Rattle.unwind.proofs.Accepted as A

@@ -20,7 +20,7 @@ use Rattle.file.specs.File.{input_room}
 use Rattle.write.specs.Splice.{Wrote}
 use Rattle.write.specs.SpliceLaws.{Ahead, ahead_start, ahead_step, ahead_end, ahead_room}
 use Rattle.unwind.specs.Size.{expr_size}
-use Rattle.unwind.specs.SizeLaws.{size-rename}
+use Rattle.unwind.proofs.SizeLaws.{size-rename}
 use Rattle.unwind.specs.Shown.{current_of, known, renamed_bytes}
 
 -- where a list has an element, it does not matter what stands for a missing one

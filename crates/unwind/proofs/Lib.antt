@@ -6,3 +6,8 @@ pub mod Writing
 pub mod Copies
 pub mod Names
 pub mod Answers
+pub mod UnwindLaws
+pub mod AgreeLaws
+pub mod AnswerLaws
+pub mod GatedLaws
+pub mod SizeLaws

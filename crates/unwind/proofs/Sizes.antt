@@ -19,7 +19,7 @@ use Rattle.expr.specs.Shown.{is_whole}
 use Rattle.file.specs.File.{input_room, Body, record_of}
 use Rattle.file.specs.Shown.{is_good, kind_of, listed}
 use Rattle.table.specs.Table.{Instr, Assign, Test, IfThenGoto, instr, read_table}
-use Rattle.file.specs.RecordLaws.{rest-length}
+use Rattle.file.proofs.RecordLaws.{rest-length}
 use Rattle.table.specs.Shown.{expr_start, expr_part, expr_of, Ready}
 use Rattle.table.proofs.Held.{Held}
 use Rattle.table.proofs.Moves.{expr-whole}

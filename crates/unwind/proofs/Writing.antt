@@ -32,7 +32,7 @@ use Rattle.write.specs.SpliceLaws.{wrote_as}
 use Rattle.unwind.specs.Places.{Action, Set, Check, Jump, Place, At, action_in}
 use Rattle.unwind.specs.Unwind.{Newest, guarded, statement, becomes, statements, advance}
 use Rattle.unwind.specs.Size.{expr_size, instr_size}
-use Rattle.unwind.specs.SizeLaws.{statement-size}
+use Rattle.unwind.proofs.SizeLaws.{statement-size}
 use Rattle.unwind.specs.declared.copy.Front.{Front}
 use Rattle.unwind.specs.Shown.{current_of, newest_of, place_of, Written}
 use Rattle.unwind.proofs.Exprs.{current-at}

@@ -1,15 +1,10 @@
 -- What a reader must believe, beside document 01; each definition has its laws beside it.
 pub mod Places
 pub mod Unwind
-pub mod UnwindLaws
 pub mod Size
-pub mod SizeLaws
 pub mod Answer
-pub mod AnswerLaws
 pub mod Cases
 -- Judging the trace is running the table.
 pub mod Gated
-pub mod GatedLaws
-pub mod AgreeLaws
 -- What the code's values mean in these terms.
 pub mod Shown

@@ -13,7 +13,7 @@ use Rattle.trace.specs.Trace.{stmt_bytes}
 use Rattle.write.specs.Splice.{Wrote}
 use Rattle.unwind.specs.Places.{Exit, Place, At, action_in}
 use Rattle.unwind.specs.Unwind.{Newest, statements}
-use Rattle.unwind.specs.UnwindLaws.{after}
+use Rattle.unwind.specs.Unwind.{after}
 use Rattle.unwind.specs.Size.{instr_size}
 use Rattle.unwind.specs.declared.copy.Front.{Front}
 

@@ -45,6 +45,11 @@ advance c (At j (Check k e)) = c
 advance c (At j (Jump g e)) = makes_control c
 advance c (At j (Exit g)) = makes_control c
 
+-- the newest symbols after some places
+abbrev pub after : Newest → List Place → Newest
+after c [] = c
+after c (p ∷ ps) = after (advance c p) ps
+
 abbrev pub statements : (cut : Kind) → Newest → List Place → List Stmt
 statements cut c [] = []
 statements cut c (p ∷ ps) = statement cut c p ∷ statements cut (advance c p) ps

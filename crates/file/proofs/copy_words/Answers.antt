@@ -3,7 +3,7 @@ use native.Mathlib.Omega.{arith}
 use mathlib.Core.Path.{◌≡◌, ap, ◌∙◌}
 use lib.ListN.{length, take, get_or, set}
 use lib.Seq.{length-sets}
-use Rattle.file.specs.FileLaws.{copy_next}
+use Rattle.file.proofs.FileLaws.{copy_next}
 use Rattle.file.proofs.copy_words.Goals as goal
 use Rattle.file.proofs.copy_words.Goals.{At-loop-s}
 

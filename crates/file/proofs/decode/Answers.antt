@@ -4,7 +4,7 @@ use mathlib.Core.Path.{◌≡◌, ap, ◌∙◌}
 use lib.ListN.{length, set}
 use lib.Seq.{length-sets}
 use Rattle.file.specs.Words.{words_of}
-use Rattle.file.specs.WordsLaws.{words_store}
+use Rattle.file.proofs.WordsLaws.{words_store}
 use Rattle.file.proofs.decode.Goals as goal
 use Rattle.file.proofs.decode.Goals.{At-loop-s}
 

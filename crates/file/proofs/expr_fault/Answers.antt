@@ -1,6 +1,6 @@
 use mathlib.Core.Path.{sym, ◌∙◌}
 use Rattle.expr.specs.Expr.{readable}
-use Rattle.file.specs.FileLaws.{expr_broken}
+use Rattle.file.proofs.FileLaws.{expr_broken}
 use Rattle.file.proofs.expr_fault.Goals as goal
 
 pub returns-in-Broken : goal.returns-in-Broken

@@ -1,4 +1,4 @@
-use Rattle.file.specs.FileLaws.{frame_missing, frame-long, frame-there}
+use Rattle.file.proofs.FileLaws.{frame_missing, frame-long, frame-there}
 use mathlib.Core.Path.{sym, ◌∙◌}
 use native.Mathlib.Omega.{arith}
 use lib.ListN.{drop, length-drop}

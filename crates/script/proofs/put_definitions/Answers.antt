@@ -1,5 +1,5 @@
 use native.Mathlib.Omega.{arith}
-use Rattle.file.specs.FileLaws.{symbols_in_two-bytes}
+use Rattle.file.proofs.FileLaws.{symbols_in_two-bytes}
 use Rattle.trace.proofs.Passes.{Known, known}
 use Rattle.write.specs.SpliceLaws.{◌then◌, wrote_as}
 use Rattle.script.proofs.Wholes.{definitions_are}

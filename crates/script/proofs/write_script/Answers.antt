@@ -7,7 +7,7 @@ use Rattle.expr.specs.Lists.{all-at}
 use Rattle.expr.specs.Number.{Byte}
 use Rattle.file.specs.File.{head_of, Accepted}
 use Rattle.file.specs.Shown.{is_accepted, listed}
-use Rattle.file.specs.ReadingLaws.{reply_refuses}
+use Rattle.file.proofs.ReadingLaws.{reply_refuses}
 use Rattle.trace.specs.Trace.{read_trace}
 use Rattle.trace.proofs.Answers.{offset-small, trace_accepted}
 use Rattle.script.proofs.Answers.{trace_refuses, no_room, written}

@@ -9,8 +9,8 @@ use Rattle.expr.specs.Lists.{All, all-at}
 use Rattle.expr.specs.Number.{Byte}
 use Rattle.file.specs.File.{input_room, header_version, header_size, header_inputs, head_of, Accepted}
 use Rattle.file.specs.Shown.{listed}
-use Rattle.file.specs.FileLaws.{inputs-room, Header, same_everywhere}
-use Rattle.file.specs.ReadingLaws.{total-small, reply_refuses}
+use Rattle.file.proofs.FileLaws.{inputs-room, Header, same_everywhere}
+use Rattle.file.proofs.ReadingLaws.{total-small, reply_refuses}
 use Rattle.trace.specs.Trace.{is_trace, read_trace}
 use Rattle.trace.specs.TraceLaws.{symbol-room}
 use Rattle.trace.specs.Shown.{Ready}

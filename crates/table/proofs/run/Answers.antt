@@ -10,8 +10,8 @@ use Rattle.expr.specs.Number.{Byte}
 use Rattle.expr.specs.Eval.{env_of}
 use Rattle.file.specs.File.{input_room, header_version, header_inputs, head_of, Accepted}
 use Rattle.file.specs.Shown.{listed}
-use Rattle.file.specs.FileLaws.{inputs-room, Header, copy_env}
-use Rattle.file.specs.ReadingLaws.{reply_refuses}
+use Rattle.file.proofs.FileLaws.{inputs-room, Header, copy_env}
+use Rattle.file.proofs.ReadingLaws.{reply_refuses}
 use Rattle.table.specs.Table.{is_table, read_table}
 use Rattle.table.specs.Shown.{Ready}
 use Rattle.table.proofs.Answers.{offset-small, table-accepted, right-header, many, is-ready, table_refuses, bound-refused}

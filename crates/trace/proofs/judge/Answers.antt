@@ -10,8 +10,8 @@ use Rattle.expr.specs.Number.{Byte}
 use Rattle.expr.specs.Eval.{env_of}
 use Rattle.file.specs.File.{header_version, header_inputs, head_of, Accepted}
 use Rattle.file.specs.Shown.{listed}
-use Rattle.file.specs.FileLaws.{inputs-room, Header, copy_env}
-use Rattle.file.specs.ReadingLaws.{reply_refuses}
+use Rattle.file.proofs.FileLaws.{inputs-room, Header, copy_env}
+use Rattle.file.proofs.ReadingLaws.{reply_refuses}
 use Rattle.trace.specs.Trace.{is_trace, read_trace}
 use Rattle.trace.specs.Shown.{symbol_room}
 use Rattle.trace.specs.TraceLaws.{symbol-room}

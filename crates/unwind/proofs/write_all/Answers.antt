@@ -6,7 +6,7 @@ use lib.ListN.{length}
 use Rattle.expr.specs.Lists.{All, all-at}
 use Rattle.expr.specs.Number.{Byte}
 use Rattle.file.specs.File.{head_size, input_room, inputs_limit}
-use Rattle.file.specs.FileLaws.{symbols_in_two-bytes}
+use Rattle.file.proofs.FileLaws.{symbols_in_two-bytes}
 use Rattle.file.specs.Shown.{listed}
 use Rattle.table.specs.Table.{read_table}
 use Rattle.trace.specs.Trace.{trace_version}

@@ -8,8 +8,8 @@ use Rattle.expr.specs.Lists.{all-at}
 use Rattle.expr.specs.Number.{Byte}
 use Rattle.file.specs.File.{head_of, Accepted}
 use Rattle.file.specs.Shown.{listed}
-use Rattle.file.specs.FileLaws.{Header}
-use Rattle.file.specs.ReadingLaws.{reply_refuses}
+use Rattle.file.proofs.FileLaws.{Header}
+use Rattle.file.proofs.ReadingLaws.{reply_refuses}
 use Rattle.table.specs.Table.{is_table, read_table}
 use Rattle.table.specs.Shown.{Ready}
 use Rattle.table.proofs.Answers.{offset-small, table-accepted, right-header, many, is-ready}

@@ -2,7 +2,7 @@ use Rattle.std.proofs.Common.{◌≡◌, ℕ, ◌-◌, Bool, length, sym, ap, �
 use Rattle.expr.specs.declared.accept.Checked.{Checked}
 use Rattle.expr.specs.declared.accept.Checked.TheVariants.{Broken}
 use Rattle.expr.specs.Expr.{readable}
-use Rattle.expr.specs.ExprLaws.{fits-is}
+use Rattle.expr.proofs.ExprLaws.{fits-is}
 use Rattle.expr.proofs.Turns.{Went, goes_on, checked_stop, checked-on, checked-end}
 use Rattle.expr.proofs.accept.check_expr.Goals as goal
 use Rattle.expr.proofs.accept.check_expr.Goals.{In-Next, Start}

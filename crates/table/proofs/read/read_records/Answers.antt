@@ -4,8 +4,8 @@ use mathlib.Core.Path.{◌≡◌, refl, sym, ◌∙◌}
 use mathlib.Core.List.{List}
 use lib.ListN.{length, take, drop}
 use Rattle.file.specs.File.{AtRecord, Body, record_of}
-use Rattle.file.specs.WalkLaws.{start, refuse, on, done, spare}
-use Rattle.file.specs.FileLaws.{record_unframed, record-inside, cut-length, record-cut, fault_bad, fault_inside, fault_good}
+use Rattle.file.proofs.WalkLaws.{start, refuse, on, done, spare}
+use Rattle.file.proofs.FileLaws.{record_unframed, record-inside, cut-length, record-cut, fault_bad, fault_inside, fault_good}
 use Rattle.table.specs.Table.{Instr, instr}
 use Rattle.table.specs.TableLaws.{instr-low}
 use Rattle.table.proofs.read.read_records.Goals as goal

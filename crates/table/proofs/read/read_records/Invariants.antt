@@ -1,6 +1,6 @@
 -- The invariant is `Walking`: see there. Each turn reads one record, whose reading does not depend on those before it.
 use Prim.Native.Nat.{◌-◌}
-use Rattle.file.specs.WalkLaws.{Walking}
+use Rattle.file.proofs.WalkLaws.{Walking}
 use Rattle.table.specs.Table.{instr}
 use Rattle.table.proofs.read.read_records.Given as goal
 

@@ -7,9 +7,9 @@ use lib.ListN.{length}
 use Rattle.expr.specs.Lists.{all-at}
 use Rattle.expr.specs.Number.{Byte}
 use Rattle.file.specs.File.{header_reply}
-use Rattle.file.specs.FileLaws.{Header, header_is, header-known}
+use Rattle.file.proofs.FileLaws.{Header, header_is, header-known}
 use Rattle.table.specs.Table.{is_table}
-use Rattle.file.specs.ReadingLaws.{short}
+use Rattle.file.proofs.ReadingLaws.{short}
 use Rattle.table.proofs.Answers.{header_read, records-read}
 use Rattle.table.proofs.read.read_table.Goals as goal
 use Rattle.table.proofs.read.read_table.Goals.{After-header_reply-head, Else-head-ne0}

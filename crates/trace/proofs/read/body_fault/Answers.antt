@@ -1,7 +1,7 @@
 use mathlib.Core.Path.{sym, ◌∙◌}
 use Prim.Native.Nat.{◌+◌}
 use native.Mathlib.Omega.{arith}
-use Rattle.file.specs.FileLaws.{symbols_in_two-bytes}
+use Rattle.file.proofs.FileLaws.{symbols_in_two-bytes}
 use Rattle.trace.specs.Trace.{Seen}
 use Rattle.trace.specs.Shown.{seen}
 use Rattle.trace.proofs.Bodies.{assign-short, assign-low, assign_high, assign-expr, test_short, test-expr, unknown}

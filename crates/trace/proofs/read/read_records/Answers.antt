@@ -5,8 +5,8 @@ use mathlib.Core.List.{List}
 use lib.ListN.{length, take, drop}
 use Rattle.file.specs.File.{AtRecord, Body, Good, record_of}
 use Rattle.file.specs.Shown.{is_good}
-use Rattle.file.specs.FileLaws.{record_unframed, record-inside, cut-length, record-cut, fault_bad, fault_inside, fault_good}
-use Rattle.file.specs.WalkLaws as Records
+use Rattle.file.proofs.FileLaws.{record_unframed, record-inside, cut-length, record-cut, fault_bad, fault_inside, fault_good}
+use Rattle.file.proofs.WalkLaws as Records
 use Rattle.trace.specs.Trace.{Stmt, stmt}
 use Rattle.trace.specs.TraceLaws.{stmt-low}
 use Rattle.trace.specs.Shown.{symbol_room, seen}

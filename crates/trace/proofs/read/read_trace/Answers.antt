@@ -7,9 +7,9 @@ use lib.ListN.{length}
 use Rattle.expr.specs.Lists.{all-at}
 use Rattle.expr.specs.Number.{Byte}
 use Rattle.file.specs.File.{header_version, header_reply}
-use Rattle.file.specs.FileLaws.{inputs-room, Header, header_is, header-known}
+use Rattle.file.proofs.FileLaws.{inputs-room, Header, header_is, header-known}
 use Rattle.trace.specs.Trace.{is_trace, tells_bound}
-use Rattle.file.specs.ReadingLaws.{short}
+use Rattle.file.proofs.ReadingLaws.{short}
 use Rattle.trace.proofs.Answers.{header_read, records-read}
 use Rattle.trace.proofs.read.read_trace.Goals as goal
 use Rattle.trace.proofs.read.read_trace.Goals.{After-header_reply-head, Else-head-ne0}

@@ -13,7 +13,7 @@ use Rattle.trace.specs.Trace.{Test}
 use Rattle.write.specs.SpliceLaws.{◌then◌}
 use Rattle.unwind.specs.Unwind.{guarded}
 use Rattle.unwind.specs.Size.{expr_size}
-use Rattle.unwind.specs.SizeLaws.{size-rename}
+use Rattle.unwind.proofs.SizeLaws.{size-rename}
 use Rattle.unwind.specs.Shown.{current_of}
 use Rattle.unwind.proofs.Records.{closes, bound-bytes}
 use Rattle.unwind.proofs.record.put_bound.Goals as goal

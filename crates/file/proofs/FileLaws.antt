@@ -20,7 +20,7 @@ use Rattle.expr.specs.Token.{Token}
 use Rattle.expr.specs.declared.File.{File}
 use Rattle.expr.specs.declared.accept.Checked.TheVariants.{Fine, Broken}
 use Rattle.expr.specs.Shown.{checked}
-use Rattle.expr.specs.ExprLaws.{breaks-inside}
+use Rattle.expr.proofs.ExprLaws.{breaks-inside}
 use Rattle.expr.specs.Expr.{Parsed, Whole, Breaks, parse}
 use Rattle.expr.specs.Eval.{env_of}
 use Rattle.file.specs.Shown.{fault_at, fine, fault_of, expr_fault, one_more, read_count, reading_of, offsets_from, offsets_in}

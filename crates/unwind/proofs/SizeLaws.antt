@@ -9,13 +9,14 @@ use Rattle.expr.specs.TokenLaws.{bytes-append}
 use Rattle.expr.specs.Eval.{rename}
 use Rattle.file.specs.Outcome.{Kind, Bound}
 use Rattle.file.specs.File.{record_bytes, records_bytes}
-use Rattle.file.specs.EncodeLaws.{records-append, encode-length}
+use Rattle.file.proofs.EncodeLaws.{records-append, encode-length}
 use Rattle.table.specs.Table.{Instr, Assign, Test, IfThenGoto}
 use Rattle.table.specs.Run.{place_in}
 use Rattle.trace.specs.Trace.{stmt_bytes, trace_head, encode_trace}
 use Rattle.unwind.specs.Places.{Check, Jump, Exit, Place, At, action_in, copy_from, copies_from, places}
 use Rattle.unwind.specs.Unwind.{Newest, guarded, statement, advance, statements, at_first, unwind}
-use Rattle.unwind.specs.UnwindLaws.{after, statements-append}
+use Rattle.unwind.specs.Unwind.{after}
+use Rattle.unwind.proofs.UnwindLaws.{statements-append}
 use Rattle.unwind.specs.Size.{expr_size, instr_size, copy_size, trace_size}
 
 -- ---- expressions

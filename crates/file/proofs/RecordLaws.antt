@@ -6,7 +6,7 @@ use Rattle.expr.specs.Number.{number_of}
 use Rattle.expr.specs.NumberLaws.{number-take}
 use Rattle.file.specs.File.{Body, Good, frame, record_of}
 use Rattle.file.specs.Shown.{rest_of}
-use Rattle.file.specs.FileLaws.{framed, record-good}
+use Rattle.file.proofs.FileLaws.{framed, record-good}
 
 pub rest-length : (s : List ℕ) (at from : ℕ) → at + (2 + number_of 2 (drop at s)) ≤ length s → from ≤ 2 + number_of 2 (drop at s)
     → from + length (rest_of s at from) ≡ 2 + number_of 2 (drop at s)

@@ -9,11 +9,11 @@ use Rattle.expr.specs.Word.{Zero, Ule}
 use Rattle.expr.specs.Token.{Token, Const, Symbol, Un, Bin, Ite}
 use Rattle.expr.specs.TokenLaws.{Holds}
 use Rattle.expr.specs.Expr.{below, pops, fits}
-use Rattle.expr.specs.ExprLaws.{fits-is, fits_const, fits-symbol, fits-operator, Ok, ok-append, ok-rename}
+use Rattle.expr.proofs.ExprLaws.{fits-is, fits_const, fits-symbol, fits-operator, Ok, ok-append, ok-rename}
 use Rattle.expr.specs.Eval.{rename_token, rename}
 use Rattle.file.specs.Outcome.{Kind, Assume, Assert, Bound}
 use Rattle.file.specs.File.{Head, input_room, inputs_limit, Accepted}
-use Rattle.file.specs.FileLaws.{symbols_in_two-bytes}
+use Rattle.file.proofs.FileLaws.{symbols_in_two-bytes}
 use Rattle.table.specs.Table.{Instr, Assign, Test, IfThenGoto}
 use Rattle.table.specs.Run.{place_in}
 use Rattle.table.specs.TableLaws.{ExprOk as TableExprOk, InstrOk}
@@ -24,14 +24,9 @@ use Rattle.trace.specs.WellFormed.{ExprOk, StmtsOk}
 use Rattle.trace.specs.EncodeLaws.{read-encode, room-written, trace_known, written-tells}
 use Rattle.unwind.specs.Places.{Action, Set, Check, Jump, Exit, Place, At, end_of, jump_in, action_in, copy_from, copies_from, places}
 use Rattle.unwind.specs.Unwind.{Newest, guarded, becomes, statement, makes_current, makes_control, advance, statements, at_first}
-use Rattle.unwind.specs.Unwind.{opening, unwind}
+use Rattle.unwind.specs.Unwind.{after, opening, unwind}
 
 -- ---- statements in parts
-
--- the newest symbols after some places
-abbrev pub after : Newest → List Place → Newest
-after c [] = c
-after c (p ∷ ps) = after (advance c p) ps
 
 pub statements-append : (cut : Kind) (c : Newest) (ps qs : List Place)
     → statements cut c (ps ++ qs) ≡ statements cut c ps ++ statements cut (after c ps) qs

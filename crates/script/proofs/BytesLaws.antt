@@ -18,9 +18,9 @@ use Rattle.trace.specs.Answer.{judge_answer, answer_of}
 use Rattle.trace.specs.Past.{values_past, OfWords}
 use Rattle.script.specs.Smt.{satisfies}
 use Rattle.script.specs.Script.{script_of, inputs_of}
-use Rattle.script.specs.ScriptLaws.{inputs-length, inputs-words, export_violated, model_violates, sat_iff}
+use Rattle.script.proofs.ScriptLaws.{inputs-length, inputs-words, export_violated, model_violates, sat_iff}
 use Rattle.script.specs.Scope.{WellScoped}
-use Rattle.script.specs.ScopeLaws.{script_scoped}
+use Rattle.script.proofs.ScopeLaws.{script_scoped}
 use Rattle.script.specs.ScriptText.{text_of, script_text}
 use Rattle.script.specs.Answer.{exported, refusal, answered, script_answer}
 

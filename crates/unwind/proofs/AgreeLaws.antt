@@ -9,7 +9,7 @@ use Rattle.std.proofs.Common.{arith, ap, ◌∙◌}
 use Rattle.expr.specs.Lists.{All}
 use Rattle.expr.specs.Token.{Const}
 use Rattle.expr.specs.Eval.{Env, env_of, update}
-use Rattle.expr.specs.EvalLaws.{value-top, update_same, update_other}
+use Rattle.expr.proofs.EvalLaws.{value-top, update_same, update_other}
 use Rattle.file.specs.Outcome.{Kind, Assume, Assert, Bound, Outcome, Ended, Failed, Lost}
 use Rattle.table.specs.Table.{Instr}
 use Rattle.table.specs.TableLaws.{InstrOk}
@@ -17,9 +17,9 @@ use Rattle.table.specs.Run.{run}
 use Rattle.trace.specs.Judge.{judge}
 use Rattle.unwind.specs.Places.{end_of, places}
 use Rattle.unwind.specs.Unwind.{statements, at_first, unwind}
-use Rattle.unwind.specs.UnwindLaws.{places-ok}
+use Rattle.unwind.proofs.UnwindLaws.{places-ok}
 use Rattle.unwind.specs.Gated.{shown_as}
-use Rattle.unwind.specs.GatedLaws.{Mirrors, judge_gated, gated_runs}
+use Rattle.unwind.proofs.GatedLaws.{Mirrors, judge_gated, gated_runs}
 
 -- ---- judging is running
 

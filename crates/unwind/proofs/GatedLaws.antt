@@ -12,7 +12,7 @@ use Rattle.expr.specs.Token.{Token, Const, Symbol, Un, Ite}
 use Rattle.expr.specs.Expr.{below}
 use Rattle.expr.specs.Eval.{Env, env_of, update, eval, value, rename}
 use Rattle.expr.specs.OperatorLaws.{zero_tests, ule_tests}
-use Rattle.expr.specs.EvalLaws.{value-top, update_same, update_other, update_self, eval-append, eval_push, push_rename}
+use Rattle.expr.proofs.EvalLaws.{value-top, update_same, update_other, update_self, eval-append, eval_push, push_rename}
 use Rattle.file.specs.Outcome.{Kind, Outcome, Ended, Failed}
 use Rattle.table.specs.Table.{Instr, Assign, Test, IfThenGoto}
 use Rattle.table.specs.TableLaws.{ExprOk, InstrOk}
@@ -20,7 +20,7 @@ use Rattle.table.specs.Run.{place_in, Halt, Go, step, step_at, onward, run_from,
 use Rattle.trace.specs.Judge.{judge}
 use Rattle.unwind.specs.Places.{Action, Set, Check, Jump, Exit, Place, At, end_of, jump_in, action_in, copy_from, copies_from, places}
 use Rattle.unwind.specs.Unwind.{Newest, guarded, becomes, makes_current, makes_control, statements}
-use Rattle.unwind.specs.UnwindLaws.{PlaceOk}
+use Rattle.unwind.proofs.UnwindLaws.{PlaceOk}
 use Rattle.unwind.specs.Gated.{gate, act, gated_run, shown_as}
 
 -- ---- judging is the gated run

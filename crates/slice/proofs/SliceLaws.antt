@@ -17,15 +17,15 @@ use Rattle.expr.specs.Number.{Byte}
 use Rattle.expr.specs.Word.{truthy}
 use Rattle.expr.specs.Token.{Token, Const, Symbol, Un, Bin, Ite}
 use Rattle.expr.specs.Expr.{after, reads_only}
-use Rattle.expr.specs.ExprLaws.{Ok, fits-is, is-fits}
+use Rattle.expr.proofs.ExprLaws.{Ok, fits-is, is-fits}
 use Rattle.expr.specs.Eval.{Env, update, value, reads_token, reads}
-use Rattle.expr.specs.EvalLaws.{value_agree}
+use Rattle.expr.proofs.EvalLaws.{value_agree}
 use Rattle.file.specs.Outcome.{Kind, Assert, Failed, unsafe, place_of}
 use Rattle.file.specs.OutcomeLaws.{unsafe-is}
 use Rattle.file.specs.File.{Head, inputs_limit, header_version, Input, Accepted, Refused, record_bytes, records_bytes}
-use Rattle.file.specs.EncodeLaws.{encode-length}
-use Rattle.file.specs.FileLaws.{header_is, file-is}
-use Rattle.file.specs.ReadingLaws.{short}
+use Rattle.file.proofs.EncodeLaws.{encode-length}
+use Rattle.file.proofs.FileLaws.{header_is, file-is}
+use Rattle.file.proofs.ReadingLaws.{short}
 use Rattle.trace.specs.Trace.{Stmt, Assign, Test, Seen, at_first, see, stmts, is_trace, read_trace, stmt_bytes, encode_trace}
 use Rattle.trace.specs.Trace.{reads_trace}
 use Rattle.trace.specs.TraceLaws.{Told, trace_refused-low}

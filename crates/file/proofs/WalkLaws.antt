@@ -8,8 +8,8 @@ use Rattle.std.proofs.lemmas.List.Edits.{sets}
 use Rattle.std.proofs.Math.Seq.{length-sets}
 use Rattle.file.specs.File.{header_size, after_header, Refusal, Body, Good, Bad, frame, Records, Read, Stop, record_of, records}
 use Rattle.file.specs.Shown.{fault_at, read_count, reading_of, offsets_from, offsets_in, ReadRecords}
-use Rattle.file.specs.FileLaws.{reading_before, records-good, records_bad, count-good, count_bad, records-end, records-spare}
-use Rattle.file.specs.FileLaws.{offsets_length, Reached, reached-start, reached-next, reached-on, sets_snoc}
+use Rattle.file.proofs.FileLaws.{reading_before, records-good, records_bad, count-good, count_bad, records-end, records-spare}
+use Rattle.file.proofs.FileLaws.{offsets_length, Reached, reached-start, reached-next, reached-on, sets_snoc}
 use Rattle.file.specs.declared.Reading.{Reading}
 use Rattle.file.specs.declared.Fault.{Fault}
 

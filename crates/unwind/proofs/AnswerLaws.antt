@@ -9,7 +9,7 @@ use Rattle.table.specs.Table.{Instr, read_table}
 use Rattle.table.specs.TableLaws.{table-refused_positive, table-ok}
 use Rattle.trace.specs.Trace.{Stmt, read_trace, trace_head, encode_trace}
 use Rattle.unwind.specs.Unwind.{unwind}
-use Rattle.unwind.specs.UnwindLaws.{unwind-accepted}
+use Rattle.unwind.proofs.UnwindLaws.{unwind-accepted}
 use Rattle.unwind.specs.Answer.{Traced, refusal, answered, trace_answer}
 
 -- t is the trace of the accepted table b under K, within the limits

@@ -3,7 +3,7 @@ use Rattle.std.specs.Prelude.{ℕ, zero, suc, ◌+◌, ◌*◌, ◌≤◌, ◌<�
 use Rattle.std.proofs.Common.{arith, add-one, sym, ap, ap₂, ◌∙◌, drop-drop, take_at}
 use Rattle.std.proofs.lemmas.List.Edits.{sets, sets-eq}
 use Rattle.expr.specs.Number.{number_of}
-use Rattle.file.specs.FileLaws.{sets_snoc}
+use Rattle.file.proofs.FileLaws.{sets_snoc}
 use Rattle.file.specs.Words.{words_of}
 
 pub words-length : (c : ℕ) (bs : List ℕ) → length (words_of c bs) ≡ c

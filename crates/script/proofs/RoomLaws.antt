@@ -13,11 +13,11 @@ use Rattle.expr.specs.NumberLaws.{bytes_of-length}
 use Rattle.expr.specs.Word.{Unary, Not, Neg, Zero, Binary, Add, Sub, Mul, Udiv, Urem, And, Or, Xor, Shl, Lshr, Equal, Ult, Ule, Slt}
 use Rattle.expr.specs.Token.{Token, Const, Symbol, Un, Bin, Ite, token_bytes, expr_bytes}
 use Rattle.expr.specs.Expr.{pops, after}
-use Rattle.expr.specs.ExprLaws.{Ok, fits-is}
+use Rattle.expr.proofs.ExprLaws.{Ok, fits-is}
 use Rattle.file.specs.Outcome.{Kind, Assume, Assert, Bound}
 use Rattle.file.specs.File.{Head, input_room, Input, Accepted, Refused, record_bytes, records_bytes}
-use Rattle.file.specs.FileLaws.{head-long}
-use Rattle.file.specs.EncodeLaws.{encode-length}
+use Rattle.file.proofs.FileLaws.{head-long}
+use Rattle.file.proofs.EncodeLaws.{encode-length}
 use Rattle.trace.specs.Trace.{Stmt, Assign, Test, Seen, at_first, see, read_trace, stmt_bytes}
 use Rattle.trace.specs.TraceLaws.{trace_refused-low, trace_short}
 use Rattle.trace.specs.WellFormed.{ExprOk, StmtsOk, trace_ok}
@@ -32,7 +32,7 @@ use Rattle.script.specs.Script.{violation, script_of}
 use Rattle.script.specs.ScriptText.{constant, symbol_name, slot_name, relation_name, apply, apply_two, ite_text, term_text, formula_text}
 use Rattle.script.specs.ScriptText.{declaration, declarations, equation_line, equation_lines, script_text}
 use Rattle.script.specs.Answer.{answered, script_answer}
-use Rattle.script.specs.BytesLaws.{script_done}
+use Rattle.script.proofs.BytesLaws.{script_done}
 
 -- ---- the letters of each form
 

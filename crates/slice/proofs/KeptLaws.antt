@@ -11,7 +11,7 @@ use Rattle.expr.specs.Lists.{All}
 use Rattle.expr.specs.Number.{Byte, number_of}
 use Rattle.expr.specs.NumberLaws.{number-written}
 use Rattle.file.specs.File.{Head, head_size, header_count, after_header, Accepted, header, record_bytes, records_bytes, encode}
-use Rattle.file.specs.EncodeLaws.{encode-length, encode-count, encode-after}
+use Rattle.file.proofs.EncodeLaws.{encode-length, encode-count, encode-after}
 use Rattle.trace.specs.Trace.{Stmt, Assign, Test, read_trace, stmt_bytes, encode_trace, reads_trace}
 use Rattle.trace.specs.TraceLaws.{trace_short}
 use Rattle.trace.specs.WellFormed.{trace_ok}
@@ -19,7 +19,7 @@ use Rattle.trace.specs.EncodeLaws.{encode-read}
 use Rattle.trace.specs.Asserts.{is_assert, has_assert}
 use Rattle.slice.specs.Slice.{keep, slice}
 use Rattle.slice.specs.Answer.{slice_of, refusal, answered, slice_answer}
-use Rattle.slice.specs.SliceLaws.{slice-asserts}
+use Rattle.slice.proofs.SliceLaws.{slice-asserts}
 
 -- ---- pieces of bytes
 

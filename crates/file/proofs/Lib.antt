@@ -1,0 +1,6 @@
+pub mod FileLaws
+pub mod EncodeLaws
+pub mod ReadingLaws
+pub mod RecordLaws
+pub mod WalkLaws
+pub mod WordsLaws
