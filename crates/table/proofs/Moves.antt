@@ -1,5 +1,5 @@
 -- The code's moves are the steps of the instruction that the record holds.
-use Prim.Native.Nat.{ℕ, suc, ◌+◌, ◌-◌, ◌*◌, ◌≤◌, ◌<◌}
+use Prim.Native.Nat.{ℕ, suc, ◌+◌, ◌*◌, ◌≤◌, ◌<◌}
 use native.Mathlib.Omega.{arith}
 use native.Mathlib.Nat.{mul-le-mul_left, mul-le-mul_right}
 use native.Mathlib.Numerals.{add-one}

@@ -8,7 +8,7 @@ use Rattle.expr.specs.declared.File.TheVariants.{Trace}
 use Rattle.expr.specs.Lists.{All, and_both, or_cases}
 use Rattle.expr.specs.Number.{Byte, number_of}
 use Rattle.expr.specs.Token.{Token}
-use Rattle.expr.specs.Expr.{readable, Whole, parse}
+use Rattle.expr.specs.Expr.{Whole, parse}
 use Rattle.expr.proofs.ExprLaws.{parse-more}
 use Rattle.file.specs.Outcome.{Kind, Assume, Assert, Bound}
 use Rattle.file.specs.File.{Head, input_room, header_inputs, head_of, AtRecord, Body, Good, Bad, field, frame, Read, record_of, Accepted}

@@ -1,6 +1,6 @@
 -- A record's size is its expression's and 20, 21 or 29 by its kind. What is summed and what is left make a copy's size, with the exit's 25
 -- twice: the sum begins with it.
-use Prim.Native.Nat.{ℕ, suc, ◌+◌, ◌-◌, ◌*◌, ◌≤◌, ◌<◌}
+use Prim.Native.Nat.{ℕ, suc, ◌+◌, ◌*◌, ◌≤◌, ◌<◌}
 use native.Mathlib.Omega.{arith}
 use native.Mathlib.Nat.{mul-le-mul_left}
 use native.Mathlib.Numerals.{add-one}

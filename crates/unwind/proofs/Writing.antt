@@ -1,5 +1,5 @@
 -- One instruction in one copy: the record that the code writes for it is that of its place, and the symbols are then the newest.
-use Prim.Native.Nat.{ℕ, suc, ◌+◌, ◌-◌, ◌*◌, ◌≤◌, ◌<◌}
+use Prim.Native.Nat.{ℕ, suc, ◌+◌, ◌*◌, ◌≤◌, ◌<◌}
 use native.Mathlib.Omega.{arith}
 use native.Mathlib.Nat.{mul-le-mul_left, mul-le-mul_right}
 use native.Mathlib.Numerals.{add-one}

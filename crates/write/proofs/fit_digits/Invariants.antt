@@ -1,5 +1,4 @@
 -- The digits are stored from the last to the first; those still to be stored are the last ones of what is left (`Storing`).
-use Prim.Native.Nat.{◌-◌}
 use Rattle.write.proofs.Decimal.{Storing}
 use Rattle.write.proofs.fit_digits.Given as goal
 

@@ -1,4 +1,4 @@
-use Prim.Native.Nat.{◌-◌, ◌+◌}
+use Prim.Native.Nat.{◌+◌}
 use mathlib.Core.Path.{sym, subst}
 use Rattle.write.proofs.Parts.{Copying, copying_on, copying_end}
 use Rattle.write.proofs.fit_each.Goals as goal

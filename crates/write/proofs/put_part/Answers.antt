@@ -1,4 +1,3 @@
-use Prim.Native.Nat.{◌-◌}
 use Rattle.write.proofs.Parts.{copying_on, copying_end}
 use Rattle.write.proofs.put_part.Goals as goal
 

@@ -1,4 +1,4 @@
-use Rattle.std.proofs.Common.{◌≡◌, ℕ, ◌-◌, Bool, length, sym, ap, ◌∙◌, arith, eq-eqb, ne_eqb}
+use Rattle.std.proofs.Common.{◌≡◌, ℕ, Bool, length, sym, ap, ◌∙◌, arith, eq-eqb, ne_eqb}
 use Rattle.expr.specs.declared.accept.Checked.{Checked}
 use Rattle.expr.specs.declared.accept.Checked.TheVariants.{Broken}
 use Rattle.expr.specs.Expr.{readable}

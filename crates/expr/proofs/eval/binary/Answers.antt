@@ -1,4 +1,3 @@
-use Rattle.expr.proofs.Steps.{above}
 use Rattle.std.proofs.Common.{◌≡◌, arith}
 use Rattle.expr.specs.Token.{operator}
 use Rattle.expr.proofs.eval.binary.Goals as goal

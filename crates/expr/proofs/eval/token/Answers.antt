@@ -1,10 +1,10 @@
 -- The operand at the reader's place, or else the operator: `Operands` says which.
-use Rattle.std.proofs.Common.{◌≡◌, ◌≢◌, length, drop, sym, subst, arith}
+use Rattle.std.proofs.Common.{length, drop, sym, subst}
 use Rattle.expr.specs.declared.stack.Stack.{Stack}
 use Rattle.expr.specs.Token.{read_token}
 use Rattle.expr.specs.Expr.{below}
 use Rattle.expr.specs.Eval.{env_of}
-use Rattle.expr.specs.Shown.{size_of, Stepped}
+use Rattle.expr.specs.Shown.{Stepped}
 use Rattle.expr.proofs.Steps.{Operator, operator-steps}
 use Rattle.expr.proofs.Operands.{operates, Pushes, pushes}
 use Rattle.expr.proofs.eval.token.Goals.{Then-size-eq0, Else-size-eq0}

@@ -1,4 +1,3 @@
-use Prim.Native.Nat.{◌-◌}
 use Rattle.script.proofs.Letters.{closing_start, closing_on, closing_end}
 use Rattle.script.proofs.term.put_closings.Goals as goal
 

@@ -1,5 +1,4 @@
 use native.Mathlib.Omega.{arith}
-use Prim.Native.Nat.{◌-◌}
 use Rattle.script.proofs.Terms.{PutOn, putting_start, putting_goes, put_on, put_all}
 use Rattle.script.proofs.term.put_expr.Goals as goal
 use Rattle.script.proofs.term.put_expr.Goals.{After-struct_known-1}

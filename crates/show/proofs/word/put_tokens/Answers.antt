@@ -1,5 +1,4 @@
 use native.Mathlib.Omega.{arith}
-use Prim.Native.Nat.{◌-◌}
 use Rattle.expr.proofs.Rests.{stands}
 use Rattle.show.proofs.Exprs.{PutOn, putting_start, putting_room, put_on, put_all}
 use Rattle.show.proofs.word.put_tokens.Goals as goal

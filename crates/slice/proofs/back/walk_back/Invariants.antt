@@ -1,7 +1,6 @@
 -- The invariant is `Walking`: see there. Each turn goes one statement back.
 use Rattle.file.specs.Shown.{listed}
 use Rattle.trace.specs.Trace.{read_trace}
-use Prim.Native.Nat.{◌-◌}
 use Rattle.slice.proofs.Walk.{Walking}
 use Rattle.slice.proofs.back.walk_back.Given as goal
 

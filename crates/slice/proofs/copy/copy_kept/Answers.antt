@@ -2,7 +2,6 @@ use native.Mathlib.Omega.{arith}
 use mathlib.Core.Path.{ap}
 use Rattle.file.specs.Shown.{is_good}
 use Rattle.slice.proofs.Statements.{counted, stands}
-use Prim.Native.Nat.{◌-◌}
 use Rattle.slice.proofs.Copies.{copy_room, copy_on, all_copied}
 use Rattle.slice.proofs.copy.copy_kept.Goals as goal
 

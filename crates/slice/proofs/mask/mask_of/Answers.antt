@@ -1,4 +1,4 @@
-use Prim.Native.Nat.{◌-◌, ◌<◌, ◌^◌}
+use Prim.Native.Nat.{◌<◌, ◌^◌}
 use mathlib.Core.Path.{sym, subst}
 use native.Mathlib.Omega.{arith}
 use Rattle.slice.specs.MaskLaws.{mask_lt}

@@ -1,6 +1,5 @@
 use Rattle.slice.proofs.Marks.{same-room}
 use native.Mathlib.Omega.{arith}
-use Prim.Native.Nat.{◌-◌}
 use mathlib.Core.Path.{sym, subst}
 use Rattle.expr.specs.declared.File.TheVariants.{Trace}
 use Rattle.expr.specs.Shown.{Stands}
