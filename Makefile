@@ -17,7 +17,7 @@ SEED ?=
 
 # the crates that the archive is made of, and their files
 parts = kadvitul_c $(shell awk -F: '$$1 == "kadvitul_c staticlib" { print $$2 }' crates.txt)
-sources = $(shell find $(addprefix crates/,$(parts)) -name '*.rt' -o -name '*.antt')
+sources = $(shell find $(addprefix crates/,$(parts)) \( -name '*.rt' -o -name '*.antt' \) -not -path '*/out/*')
 
 .DEFAULT_GOAL = help
 .PHONY: help run cli print test bench lib soak fmt mutants clean

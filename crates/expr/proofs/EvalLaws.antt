@@ -10,7 +10,8 @@ use Rattle.expr.specs.WordLaws.{unary_lt, binary_lt, choice_lt}
 use Rattle.expr.specs.Token.{Token, Const, Symbol, Un, Bin, Ite}
 use Rattle.expr.specs.TokenLaws.{Holds}
 use Rattle.expr.specs.Expr.{pops, after, reads_only, fits, Whole}
-use Rattle.expr.proofs.ExprLaws.{fits-is, Ok}
+use Rattle.expr.proofs.ExprLaws.{fits-is}
+use Rattle.expr.specs.Expr.{Ok}
 use Rattle.expr.specs.Eval.{Env, env_of, update, step, eval, top, value, rename_token, rename, reads_token, reads}
 use Rattle.expr.specs.Shown.{value_of}
 

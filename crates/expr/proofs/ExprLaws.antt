@@ -12,7 +12,7 @@ use Rattle.expr.specs.Lists.{All, and_both, both_and, or_false}
 use Rattle.expr.specs.Number.{Byte}
 use Rattle.expr.specs.Token.{Token, Const, Symbol, Un, Bin, Ite, operands, operand_count, expr_bytes, read_token}
 use Rattle.expr.specs.TokenLaws.{Holds, IsOperator, operands-length, token-written, Stands, token-stands}
-use Rattle.expr.specs.Expr.{depth_limit, below, readable, pops, after, reads_only, fits, Parsed, Whole, Breaks, also, on_token}
+use Rattle.expr.specs.Expr.{Ok, depth_limit, below, readable, pops, after, reads_only, fits, Parsed, Whole, Breaks, also, on_token}
 use Rattle.expr.specs.Expr.{parse_from, parse}
 use Rattle.expr.specs.Eval.{rename_token, rename}
 
@@ -86,10 +86,6 @@ fits_more may might limit d h t f =
     is-fits might limit d t (record { enough = a.enough; room = a.room; known = reads_more may might h t a.known })
 
 -- ---- tokens that are an expression, from d words to z
-
-abbrev pub Ok : (may : ℕ → Bool) (limit d z : ℕ) → List Token → Type 0
-Ok may limit d z [] = d ≡ z
-Ok may limit d z (t ∷ e) = (fits may limit d t ≡ true) × Ok may limit (after d t) z e
 
 pub ok-append : (may : ℕ → Bool) (limit d m z : ℕ) (e f : List Token) → Ok may limit d m e → Ok may limit m z f → Ok may limit d z (e ++ f)
 ok-append may limit d m z [] f o p = rw (← o) at p

@@ -1,5 +1,5 @@
 -- Document 01, "Table and trace bytes": which bytes are an expression.
-use Rattle.std.specs.Prelude.{ℕ, zero, suc, ◌-◌, Bool, true, false, cond, ◌&&◌, ◌||◌, List, [], ◌∷◌, ◌==◌, nat_le, nat_lt, slice_index_or}
+use Rattle.std.specs.Prelude.{◌≡◌, ℕ, zero, suc, ◌-◌, Bool, true, false, cond, ◌&&◌, ◌||◌, List, [], ◌∷◌, ◌==◌, nat_le, nat_lt, slice_index_or}
 use Rattle.std.proofs.Math.Option.{Option, none, some}
 use Rattle.expr.specs.declared.File.{File}
 use Rattle.expr.specs.declared.File.TheVariants.{Table, Trace}
@@ -64,3 +64,9 @@ parse_from F may d zero (b ∷ bs) = on_token F may d (b ∷ bs) (read_token F (
 
 abbrev pub parse : (F : File) (may : ℕ → Bool) → List ℕ → Parsed
 parse F may bs = parse_from F may 0 0 bs
+
+-- ---- tokens that are an expression, from d words to z
+
+abbrev pub Ok : (may : ℕ → Bool) (limit d z : ℕ) → List Token → Type 0
+Ok may limit d z [] = d ≡ z
+Ok may limit d z (t ∷ e) = (fits may limit d t ≡ true) × Ok may limit (after d t) z e

@@ -1,4 +1,4 @@
--- What a reader must believe: the definitions, in document 01's order. Beside each stand its laws.
+-- What a reader must believe: the definitions, in document 01's order. Their laws stand beside them, or in `proofs/`.
 pub mod Word
 pub mod WordLaws
 pub mod OperatorLaws

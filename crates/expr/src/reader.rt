@@ -1,5 +1,4 @@
-// A record's bytes together with the offset of its next token. The borrow checker covers no function over a struct that holds a
-// slice, so each is proved by hand, and leaves the work to a function on the slice and the number.
+// A record's bytes together with the offset of its next token. Each function leaves the work to one on the slice and the number.
 ghost use Rattle.std.specs.Prelude.{◌≡◌, ◌+◌, ◌^◌, ◌<◌, length, drop, nat_lt};
 ghost use Rattle.expr.specs.Token.{read_token};
 ghost use Rattle.expr.specs.Shown.{shown_token};
@@ -52,7 +51,7 @@ pub fn moved<'a>(r: Reader<'a>, size: usize) -> Reader<'a>
     }
 }
 
-// The token at a place, with all its operands: whoever calls this one needs no proof by hand.
+// The token at a place, with all its operands, for whoever has no reader.
 pub fn read_token(e: &[u8], at: usize, file: File) -> Read
     requires { at < length e.now }
     ensures { result ≡ shown_token (read_token file (drop at e.now)) }

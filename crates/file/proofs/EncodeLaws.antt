@@ -14,7 +14,8 @@ use Rattle.file.specs.File.{Head, head_size, inputs_limit, header_version, heade
 use Rattle.file.specs.File.{after_header, Body, Good, field, frame, Records, Read, Accepted, record_of, before, on_record, records}
 use Rattle.file.specs.File.{finish}
 use Rattle.file.specs.File.{read_file, header, record_bytes, records_bytes, encode}
-use Rattle.file.proofs.FileLaws.{field_there, frame-there, framed, record-framed, record-good, next-record, Chain, header-length}
+use Rattle.file.proofs.FileLaws.{field_there, frame-there, framed, record-framed, record-good, next-record, header-length}
+use Rattle.file.specs.File.{Chain}
 use Rattle.file.proofs.FileLaws.{version-written, inputs-written, total-written, count-written, header_is, header-right, file-read}
 use Rattle.file.proofs.FileLaws.{file-is}
 

@@ -25,7 +25,7 @@ use Rattle.expr.specs.Expr.{Parsed, Whole, Breaks, parse}
 use Rattle.expr.specs.Eval.{env_of}
 use Rattle.file.specs.Shown.{fault_at, fine, fault_of, expr_fault, one_more, read_count, reading_of, offsets_from, offsets_in}
 use Rattle.file.specs.declared.Fault.{Fault}
-use Rattle.file.specs.File.{Head, head_size, input_room, inputs_limit, header_version, header_size, header_total, header_inputs, header_count}
+use Rattle.file.specs.File.{Low, Chain, Head, head_size, input_room, inputs_limit, header_version, header_size, header_total, header_inputs, header_count}
 use Rattle.file.specs.File.{head_of, after_header, header_reply, header, Refusal, AtRecord, AtToken, Body, Good, Bad, field, rule}
 use Rattle.file.specs.File.{holding, frame, Records, Read}
 use Rattle.file.specs.File.{Stop, Accepted, Refused, record_of, before, on_record, records, finish, read_file}
@@ -102,12 +102,6 @@ module _ {A : Type 0} (one : List ℕ → Body A) (s : List ℕ) (at len : ℕ) 
       ∙ ap₂ (λ l r. one (take l r)) (sym e ∙ (let z : len ≡ at + (2 + len) - (at + 2) = omega arith in z)) (drop-drop 2 at s)
 
 -- ---- replies
-
--- a record that is refused has the reply 5, 6 or 7
-abbrev pub Low : {A : Type 0} → Body A → Type 0
-Low (Good x) = Unit {0}
-Low (Bad (AtRecord r)) = (5 ≤ r) × (r ≤ 7)
-Low (Bad (AtToken left)) = Unit {0}
 
 module _ {A : Type 0} where
   pub holding-low : (f : List Token → A) (p : Parsed) → Low (holding f p)
@@ -286,20 +280,15 @@ module _ {A St : Type 0} (one : St → List ℕ → Body A) (next : St → A →
       go [] h = cc
       go (b ∷ bs) h = absurd (let y : ◌≡◌ {A = ℕ} 0 1 = cc in omega arith)
 
-  -- every record is right for the state that the records before it leave
-  abbrev pub Chain : (Q : St → A → Type 0) → St → List A → Type 0
-  Chain Q σ [] = Unit {0}
-  Chain Q σ (a ∷ xs) = Q σ a × Chain Q (next σ a) xs
-
   pub records-chain : (Q : St → A → Type 0) → ((σ : St) (l m : ℕ) (a : A) → one σ (take l (drop m s)) ≡ Good a → Q σ a)
-      → (c at : ℕ) (σ : St) (xs : List A) → records one next c σ (drop at s) ≡ Read xs → Chain Q σ xs × (length xs ≡ c)
-  records-chain Q sound zero at σ xs h = subst (λ ys. Chain Q σ ys × (length ys ≡ 0)) (sym (nothing_left at σ xs h)) (tt, refl)
+      → (c at : ℕ) (σ : St) (xs : List A) → records one next c σ (drop at s) ≡ Read xs → Chain one next s Q σ xs × (length xs ≡ c)
+  records-chain Q sound zero at σ xs h = subst (λ ys. Chain one next s Q σ ys × (length ys ≡ 0)) (sym (nothing_left at σ xs h)) (tt, refl)
   records-chain Q sound (suc c) at σ xs h =
       let k = next-record at c σ xs h in
       let g = record-good (one σ) (drop at s) k.head k.good in
       let l = frame (drop at s) in
       let rest = records-chain Q sound c (at + (2 + frame (drop at s))) (next σ k.head) k.tail k.on in
-      subst (λ ys. Chain Q σ ys × (length ys ≡ suc c)) (sym k.is)
+      subst (λ ys. Chain one next s Q σ ys × (length ys ≡ suc c)) (sym k.is)
       ((sound σ l (at + 2) k.head (ap (λ r. one σ (take l r)) (sym (drop-drop 2 at s)) ∙ g.1), rest.0), ap suc rest.1)
 
   -- all that are read are counted

@@ -14,7 +14,8 @@ use Rattle.file.specs.File.{Records, Read, Stop}
 use Rattle.file.specs.File.{records, Input, Accepted, Refused, finish, read_file}
 use Rattle.file.specs.Shown.{read_count, reading_of, offsets_from, offsets_in, ReadRecords, is_accepted, listed, file_reading, file_count}
 use Rattle.file.specs.Shown.{ReadFile, Ready}
-use Rattle.file.proofs.FileLaws.{head-short, Low, reading_offset, records-chain, count-all, Header, header_is, file-refused, file-read}
+use Rattle.file.proofs.FileLaws.{head-short, reading_offset, records-chain, count-all, Header, header_is, file-refused, file-read}
+use Rattle.file.specs.File.{Low}
 use Rattle.file.proofs.FileLaws.{file-is}
 use Rattle.file.proofs.FileLaws.{file-refused-low, offsets_length, sets_at}
 use Rattle.file.specs.declared.Reading.{Reading}

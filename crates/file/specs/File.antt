@@ -1,5 +1,5 @@
 -- Document 01, "Table and trace bytes" and "Numbered replies": headers, records and their refusals, for tables and traces alike.
-use Rattle.std.specs.Prelude.{ℕ, zero, suc, ◌+◌, ◌-◌, Bool, cond, ◌&&◌, List, [], ◌∷◌, ◌++◌, length, take, drop, get_or, eqb, leb}
+use Rattle.std.specs.Prelude.{◌≤◌, ℕ, zero, suc, ◌+◌, ◌-◌, Bool, cond, ◌&&◌, List, [], ◌∷◌, ◌++◌, length, take, drop, get_or, eqb, leb}
 use Rattle.expr.specs.Number.{number_of, bytes_of}
 use Rattle.expr.specs.Token.{Token}
 use Rattle.expr.specs.Expr.{Parsed, Whole, Breaks}
@@ -127,6 +127,20 @@ module _ {A : Type 0} where
       cond (eqb (header_reply known limit bs) 0)
       (finish (length bs) (head_of bs) (body (head_of bs) (header_count bs) (after_header bs)))
       (Refused (header_reply known limit bs) 0)
+
+-- ---- what laws say of records
+
+-- a record that is refused has the reply 5, 6 or 7
+abbrev pub Low : {A : Type 0} → Body A → Type 0
+Low (Good x) = Unit {0}
+Low (Bad (AtRecord r)) = (5 ≤ r) × (r ≤ 7)
+Low (Bad (AtToken left)) = Unit {0}
+
+module _ {A St : Type 0} (one : St → List ℕ → Body A) (next : St → A → St) (s : List ℕ) where
+  -- every record is right for the state that the records before it leave
+  abbrev pub Chain : (Q : St → A → Type 0) → St → List A → Type 0
+  Chain Q σ [] = Unit {0}
+  Chain Q σ (a ∷ xs) = Q σ a × Chain Q (next σ a) xs
 
 -- ---- writing
 

@@ -13,7 +13,8 @@ use Rattle.expr.specs.NumberLaws.{bytes_of-length}
 use Rattle.expr.specs.Word.{Unary, Not, Neg, Zero, Binary, Add, Sub, Mul, Udiv, Urem, And, Or, Xor, Shl, Lshr, Equal, Ult, Ule, Slt}
 use Rattle.expr.specs.Token.{Token, Const, Symbol, Un, Bin, Ite, token_bytes, expr_bytes}
 use Rattle.expr.specs.Expr.{pops, after}
-use Rattle.expr.proofs.ExprLaws.{Ok, fits-is}
+use Rattle.expr.proofs.ExprLaws.{fits-is}
+use Rattle.expr.specs.Expr.{Ok}
 use Rattle.file.specs.Outcome.{Kind, Assume, Assert, Bound}
 use Rattle.file.specs.File.{Head, input_room, Input, Accepted, Refused, record_bytes, records_bytes}
 use Rattle.file.proofs.FileLaws.{head-long}

@@ -11,7 +11,8 @@ use Rattle.expr.specs.Lists.{and_both, both_and, or_left, or_right, or_cases}
 use Rattle.expr.specs.Word.{Unary, Not, Neg, Zero, Binary, Add, Sub, Mul, Udiv, Urem, And, Or, Xor, Shl, Lshr, Equal, Ult, Ule, Slt}
 use Rattle.expr.specs.Token.{Token, Const, Symbol, Un, Bin, Ite}
 use Rattle.expr.specs.Expr.{pops, after, reads_only}
-use Rattle.expr.proofs.ExprLaws.{Ok, fits-is}
+use Rattle.expr.proofs.ExprLaws.{fits-is}
+use Rattle.expr.specs.Expr.{Ok}
 use Rattle.expr.specs.Eval.{Env, update}
 use Rattle.file.specs.Outcome.{Kind, Assume, Assert, Bound}
 use Rattle.file.specs.File.{Head}

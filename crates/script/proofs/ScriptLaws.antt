@@ -21,7 +21,8 @@ use Rattle.expr.specs.Word.{Word, test, unary, binary, choice}
 use Rattle.expr.specs.Token.{Token, Const, Symbol, Un, Bin, Ite}
 use Rattle.expr.specs.TokenLaws.{Holds}
 use Rattle.expr.specs.Expr.{pops, after}
-use Rattle.expr.proofs.ExprLaws.{Ok, fits-is}
+use Rattle.expr.proofs.ExprLaws.{fits-is}
+use Rattle.expr.specs.Expr.{Ok}
 use Rattle.expr.specs.Eval.{Env, env_of, update, step, eval, top, value}
 use Rattle.expr.proofs.EvalLaws.{update_same, update_other, step-length, eval-words}
 use Rattle.file.specs.Outcome.{Kind, Assume, Assert, Bound, Outcome, Failed, unsafe}

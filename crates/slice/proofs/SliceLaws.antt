@@ -17,7 +17,8 @@ use Rattle.expr.specs.Number.{Byte}
 use Rattle.expr.specs.Word.{truthy}
 use Rattle.expr.specs.Token.{Token, Const, Symbol, Un, Bin, Ite}
 use Rattle.expr.specs.Expr.{after, reads_only}
-use Rattle.expr.proofs.ExprLaws.{Ok, fits-is, is-fits}
+use Rattle.expr.proofs.ExprLaws.{fits-is, is-fits}
+use Rattle.expr.specs.Expr.{Ok}
 use Rattle.expr.specs.Eval.{Env, update, value, reads_token, reads}
 use Rattle.expr.proofs.EvalLaws.{value_agree}
 use Rattle.file.specs.Outcome.{Kind, Assert, Failed, unsafe, place_of}

@@ -1,4 +1,4 @@
--- What a reader must believe, beside document 01; each definition has its laws beside it.
+-- What a reader must believe, beside document 01; the laws of the slice stand in `proofs/`, the others beside their definitions.
 pub mod Slice
 pub mod Mask
 pub mod MaskLaws

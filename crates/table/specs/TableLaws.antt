@@ -10,13 +10,15 @@ use Rattle.expr.specs.Number.{Byte, number_of}
 use Rattle.expr.specs.Token.{Token}
 use Rattle.expr.specs.Expr.{below, Whole, parse}
 use Rattle.expr.specs.TokenLaws.{Holds}
-use Rattle.expr.proofs.ExprLaws.{Ok, parse-accepted, parse-more}
+use Rattle.expr.proofs.ExprLaws.{parse-accepted, parse-more}
+use Rattle.expr.specs.Expr.{Ok}
 use Rattle.file.specs.Outcome.{Assume, Assert}
 use Rattle.file.specs.File.{Head, input_room, header_version, header_size, header_inputs, header_count, AtRecord, Body, Good, Bad, field, frame}
 use Rattle.file.specs.File.{Read}
 use Rattle.file.specs.File.{record_of, Accepted, Refused}
 use Rattle.file.specs.Shown.{offsets_from}
-use Rattle.file.proofs.FileLaws.{Low, holding-low, cond-low, framed, record-framed, record-good, next-record, Chain, records-chain}
+use Rattle.file.proofs.FileLaws.{holding-low, cond-low, framed, record-framed, record-good, next-record, records-chain}
+use Rattle.file.specs.File.{Low, Chain}
 use Rattle.file.proofs.FileLaws.{inputs-room, header_is, file-is, file-refused-low, field_there, field_good, rule-good, holding-good}
 use Rattle.table.specs.Table.{Instr, Assign, Test, IfThenGoto, assign, test, if_then_goto, instr, instrs_from, instrs}
 use Rattle.table.specs.Table.{is_table, read_table}

@@ -9,7 +9,8 @@ use Rattle.expr.specs.Token.{Token, expr_bytes}
 use Rattle.expr.specs.Expr.{Whole, parse}
 use Rattle.expr.proofs.ExprLaws.{parse-accepted, parse-written}
 use Rattle.file.specs.File.{Head, head_size, input_room, inputs_limit, Good, Accepted}
-use Rattle.file.proofs.FileLaws.{Chain, inputs-room, symbols_in_two-bytes}
+use Rattle.file.proofs.FileLaws.{inputs-room, symbols_in_two-bytes}
+use Rattle.file.specs.File.{Chain}
 use Rattle.file.proofs.EncodeLaws.{encode-length, file-same, field_written, file-written, records-written}
 use Rattle.trace.specs.Trace.{Stmt, Assign, Test, Seen, at_first, see, assign, assign_at, test_at, stmt, stmts, read_trace, stmt_bytes}
 use Rattle.trace.specs.Trace.{trace_version, old_version, is_trace, tells_bound, trace_head, encode_trace}

@@ -14,7 +14,8 @@ use Rattle.file.specs.Outcome.{Kind, Assume, Assert, Bound}
 use Rattle.file.specs.File.{Head, input_room, header_inputs, head_of, AtRecord, Body, Good, Bad, field, frame, Read, record_of, Accepted}
 use Rattle.file.specs.File.{Refused}
 use Rattle.file.specs.Shown.{offsets_from}
-use Rattle.file.proofs.FileLaws.{Low, holding-low, cond-low, framed, record-framed, record-good, next-record, records-chain, file-is}
+use Rattle.file.proofs.FileLaws.{holding-low, cond-low, framed, record-framed, record-good, next-record, records-chain, file-is}
+use Rattle.file.specs.File.{Low}
 use Rattle.file.proofs.FileLaws.{file-refused-low, field_there, field_good, rule-good, holding-good}
 use Rattle.file.proofs.ReadingLaws.{short}
 use Rattle.trace.specs.Trace.{Stmt, Assign, Test, Seen, see, assign, assign_at, test_at, stmt, stmts_from, stmts, is_trace, read_trace}

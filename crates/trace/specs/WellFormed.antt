@@ -8,9 +8,11 @@ use Rattle.expr.specs.NumberLaws.{number_lt}
 use Rattle.expr.specs.Token.{Token}
 use Rattle.expr.specs.Expr.{Whole, parse}
 use Rattle.expr.specs.TokenLaws.{Holds}
-use Rattle.expr.proofs.ExprLaws.{Ok, parse-accepted}
+use Rattle.expr.proofs.ExprLaws.{parse-accepted}
+use Rattle.expr.specs.Expr.{Ok}
 use Rattle.file.specs.File.{Head, input_room, header_version, header_size, header_count, Good, Accepted}
-use Rattle.file.proofs.FileLaws.{Chain, records-chain, inputs-room, header_is, file-is}
+use Rattle.file.proofs.FileLaws.{records-chain, inputs-room, header_is, file-is}
+use Rattle.file.specs.File.{Chain}
 use Rattle.trace.specs.Trace.{Stmt, Assign, Test, Seen, at_first, see, stmt, stmts, is_trace, read_trace}
 use Rattle.trace.specs.TraceLaws.{Told, Says, says-assign, says-test, says}
 

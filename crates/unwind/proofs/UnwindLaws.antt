@@ -9,7 +9,8 @@ use Rattle.expr.specs.Word.{Zero, Ule}
 use Rattle.expr.specs.Token.{Token, Const, Symbol, Un, Bin, Ite}
 use Rattle.expr.specs.TokenLaws.{Holds}
 use Rattle.expr.specs.Expr.{below, pops, fits}
-use Rattle.expr.proofs.ExprLaws.{fits-is, fits_const, fits-symbol, fits-operator, Ok, ok-append, ok-rename}
+use Rattle.expr.proofs.ExprLaws.{fits-is, fits_const, fits-symbol, fits-operator, ok-append, ok-rename}
+use Rattle.expr.specs.Expr.{Ok}
 use Rattle.expr.specs.Eval.{rename_token, rename}
 use Rattle.file.specs.Outcome.{Kind, Assume, Assert, Bound}
 use Rattle.file.specs.File.{Head, input_room, inputs_limit, Accepted}

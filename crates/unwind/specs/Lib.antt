@@ -1,4 +1,4 @@
--- What a reader must believe, beside document 01; each definition has its laws beside it.
+-- What a reader must believe, beside document 01; their laws stand in `proofs/`.
 pub mod Places
 pub mod Unwind
 pub mod Size
