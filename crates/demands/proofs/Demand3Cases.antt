@@ -42,7 +42,8 @@ abbrev small_trace : List ℕ
 small_trace = (trace_answer small_rule 0 156).bytes
 
 small_bytes : All Byte small_rule
-small_bytes = all-at Byte small_rule (λ i h. ltb-true (get_or small_rule i 0) 256 (every-below 44 (λ i. ltb (get_or small_rule i 0) 256) refl i h))
+small_bytes = all-at Byte small_rule (λ i h. ltb-true (get_or small_rule i 0) 256
+    (every-below 44 (λ i. ltb (get_or small_rule i 0) 256) refl i h))
 
 -- under K = 0 its trace can be written into 156 bytes: m5 computes it
 small-written : (trace_answer small_rule 0 156).reply ≡ 0
@@ -77,12 +78,14 @@ first-bytes =
     (every-below 11 (λ i. ltb (get_or first_asserted i 0) 256) refl i h))
 
 first-written : (trace_answer first_asserted 0 100).reply ≡ 0
-unfolding trace_answer trace_version read_table is_table read_file header_reply head_size header_inputs header_count inputs_limit input_room records
+unfolding trace_answer trace_version read_table is_table read_file header_reply head_size header_inputs header_count inputs_limit input_room
+    records
     record_of frame instr parse_from read_token operator fits unwind places encode header
 first-written = refl
 
 first-sliced : ((slice_answer first_trace 100).reply ≡ 0) × ((slice_answer first_trace 100).mask ≡ 1)
-unfolding trace_answer trace_version read_table is_table read_file header_reply head_size header_inputs header_count inputs_limit input_room records
+unfolding trace_answer trace_version read_table is_table read_file header_reply head_size header_inputs header_count inputs_limit input_room
+    records
     record_of frame instr parse_from read_token operator fits unwind places encode header slice_answer read_trace is_trace old_version
     tells_bound stmt slice
 first-sliced = (refl, refl)

@@ -157,7 +157,8 @@ module _ (b : List ℕ) (K : ℕ) (head : Head) (is : List Instr) (t : List ℕ)
 
   -- of any trace that is read with the table's inputs
   module _ (s : List ℕ) {header : Head} {us : List Stmt} (a : read_trace s ≡ Accepted header us) (i : header.inputs ≡ S) where
-    judge-tested : (v : List ℕ) → judge_answer s v ≡ cond (eqb (length v) S) (Judging.answer_of (judge us (env_of v))) (Judging.refusal 11 0)
+    judge-tested : (v : List ℕ) → judge_answer s v ≡ cond (eqb (length v) S) (Judging.answer_of (judge us (env_of v)))
+        (Judging.refusal 11 0)
     unfolding judge_answer
     judge-tested v =
         ap (Judging.answered v) a

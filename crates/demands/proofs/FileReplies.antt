@@ -11,7 +11,8 @@ use borrow.Author.Tests.{eqb-true, eqb-false, leb-true, leb-false, le-leb}
 use Rattle.expr.specs.declared.File.{File}
 use Rattle.expr.specs.declared.File.TheVariants.{Table, Trace}
 use Rattle.expr.specs.Lists.{and_both, both_and}
-use Rattle.file.specs.File.{Head, inputs_limit, header_version, header_size, header_total, header_inputs, header_count, head_of, header_reply, Body}
+use Rattle.file.specs.File.{Head, inputs_limit, header_version, header_size, header_total, header_inputs, header_count, head_of}
+use Rattle.file.specs.File.{header_reply, Body}
 use Rattle.file.specs.File.{Refusal, AtRecord, AtToken, Good, Bad, frame, Records, Read, Stop, Input, Accepted, Refused, record_of}
 use Rattle.file.specs.File.{before, records, finish, read_file}
 use Rattle.file.specs.Shown.{fault_at}
@@ -187,7 +188,8 @@ module _ {A St : Type 0} (c : Call) (one : St → List ℕ → Body A) (next : S
 -- ---- the file
 
 -- any file: what its reader knows after k records is `Inv k`, and each record is read as its rows decide
-module _ {A St : Type 0} (c : Call) (F : File) (is : file_of c ≡ F) (one : (head : Head) (n : ℕ) → St → List ℕ → Body A) (next : St → A → St)
+module _ {A St : Type 0} (c : Call) (F : File) (is : file_of c ≡ F) (one : (head : Head) (n : ℕ) → St → List ℕ → Body A)
+    (next : St → A → St)
     (start : (head : Head) → St)
     (Inv : ℕ → St → Type 0) (started : Inv 0 (start (head_of (bytes_of c))))
     (decided : (k : ℕ) (σ : St) → Inv k σ → Decided F (bytes_of c) k (record_at (bytes_of c) k)

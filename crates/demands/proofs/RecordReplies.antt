@@ -436,7 +436,8 @@ module _ (s : List ℕ) (k : ℕ) (σ : Seen) (w : Knows s k σ) where
   knows_test : (t : Kind) (p : ℕ) (e : List Token) → (kind_at s at ≡ 1 → ⊥) → Knows s (suc k) (see σ (TraceSpec.Test t p e))
   knows_test t p e q = record {
     reads = w.reads ∙ fun_ext (λ x.
-        sym (ap (λ b. below (header_inputs s) x || ((b && eqb x (number_at s at 3 2)) || assigned_before s k x)) (ne_eqb (kind_at s at) 1 q)));
+        sym (ap (λ b. below (header_inputs s) x || ((b && eqb x (number_at s at 3 2)) || assigned_before s k x))
+        (ne_eqb (kind_at s at) 1 q)));
     above = w.above;
     greater = λ i h u. elim (dec_lt i k) [
       | yes m ↦ w.greater i m u

@@ -20,7 +20,8 @@ pub words-length : (h : Handed) (S : ℕ) (v : List ℕ) → (length (words_in h
 words-length Words S v = (λ e. e, λ e. e)
 words-length Bytes S v = as_words-length S v
 
-pub words-input : (h : Handed) (S : ℕ) (v : List ℕ) → length v ≡ length_for h S → (s : ℕ) → s < S → get_or (words_in h S v) s 0 ≡ input_in h v s
+pub words-input : (h : Handed) (S : ℕ) (v : List ℕ) → length v ≡ length_for h S → (s : ℕ) → s < S → get_or (words_in h S v) s 0
+    ≡ input_in h v s
 words-input Words S v e s l = refl
 words-input Bytes S v e s l = ap (λ ws. get_or ws s 0) (as_words-right S v e) ∙ words-at S v s l
 

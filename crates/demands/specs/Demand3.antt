@@ -8,8 +8,8 @@
 -- and, since 2026-01: run and whole trace agree on all four verdicts and the place; slice and two valuations on unsafe or not, and the
 -- place.
 --
--- It is stated over bytes and over the answers that the public calls are proved to give: running and judging with a valuation as words
--- or as bytes (`ran_with`, `judged_with`), `trace_answer` of writing a trace, `slice_answer` of slicing. That the numbers of a valuation are
+-- It is stated over bytes and over the answers that the public calls are proved to give: running and judging with a valuation as words or
+-- as bytes (`ran_with`, `judged_with`), `trace_answer` of writing a trace, `slice_answer` of slicing. That the numbers of a valuation are
 -- words, or bytes, is not needed. Demand3Proof proves `Demand3` for every table, bound and room for which writing the trace answers 0.
 use Rattle.std.specs.Prelude.{ℕ, ◌+◌, ◌*◌, ◌≤◌, ◌<◌, ◌≡◌, ◌↔◌, cond, List, eqb, length}
 use Rattle.expr.specs.Word.{bit}

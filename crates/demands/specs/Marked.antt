@@ -142,7 +142,8 @@ all_hold [] h = tt
 all_hold (m number question told ∷ cs) h = (cc, all_hold cs cc)
 
 pub marked_hold : All Holds marked
-unfolding run_answer read_table is_table read_file header_reply head_size header_inputs header_count inputs_limit input_room records record_of frame
+unfolding run_answer read_table is_table read_file header_reply head_size header_inputs header_count inputs_limit input_room records
+    record_of frame
     instr parse_from read_token operator fits run value unary binary signed judge_answer read_trace is_trace trace_version
     old_version tells_bound stmt
     judge trace_answer unwind places encode header slice_answer slice ones

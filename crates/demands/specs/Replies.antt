@@ -1,6 +1,7 @@
 -- Document 01, "Numbered replies", row by row, over the bytes. Where a record stands is said by the length fields alone; the readers of
 -- `table` and `trace` are not cited for any condition of 1 to 7.
-use Rattle.std.specs.Prelude.{ℕ, zero, suc, ◌+◌, ◌-◌, ◌*◌, ◌≤◌, ◌<◌, ◌≡◌, ◌↔◌, Bool, false, cond, ◌&&◌, ◌||◌, List, [], length, take, drop, get_or, eqb}
+use Rattle.std.specs.Prelude.{ℕ, zero, suc, ◌+◌, ◌-◌, ◌*◌, ◌≤◌, ◌<◌, ◌≡◌, ◌↔◌, Bool, false, cond, ◌&&◌, ◌||◌, List, [], length, take, drop}
+use Rattle.std.specs.Prelude.{get_or, eqb}
 use Rattle.std.proofs.Math.Option.{Option, none, some}
 use Rattle.expr.specs.declared.File.{File}
 use Rattle.expr.specs.declared.File.TheVariants.{Table, Trace}
@@ -139,7 +140,8 @@ number Valuation = 11
 abbrev pub result : Call → List ℕ
 result (Run h t K v) = []
 result (Judge h t v) = []
-result (WriteTrace t K room) = encode_trace (trace_head (header_inputs t)) (unwind Outcome.Bound (header_inputs t) (listed (read_table t)) K)
+result (WriteTrace t K room) = encode_trace (trace_head (header_inputs t))
+    (unwind Outcome.Bound (header_inputs t) (listed (read_table t)) K)
 result (SliceTrace t room) = encode_trace (head_of t) (slice (listed (read_trace t)))
 result (WriteScript t room) = script_text (header_inputs t) (listed (read_trace t))
 

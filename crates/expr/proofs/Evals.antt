@@ -1,5 +1,6 @@
 -- The evaluator's loop: the value of the rest of the expression, from the stack that is reached, is the value of the whole.
-use Rattle.std.proofs.Common.{◌≡◌, ℕ, ◌+◌, ◌-◌, ◌<◌, ◌≤◌, Bool, true, false, cond, eqb, List, [], length, get_or, drop, sym, refl, ap, ◌∙◌, ap₂, arith, eqb-true}
+use Rattle.std.proofs.Common.{◌≡◌, ℕ, ◌+◌, ◌-◌, ◌<◌, ◌≤◌, Bool, true, false, cond, eqb, List, [], length, get_or, drop, sym, refl, ap, ◌∙◌}
+use Rattle.std.proofs.Common.{ap₂, arith, eqb-true}
 use Rattle.expr.specs.declared.File.{File}
 use Rattle.expr.specs.Token.{Token, read_token}
 use Rattle.expr.specs.Expr.{below, pops, Parsed, Whole, Breaks, also, parse_from, parse}
@@ -25,7 +26,8 @@ module _ (F : File) (vals e : List ℕ) where
     pub deep : depth ≤ 17
     pub long : length words ≡ 17
     pub whole : is_whole (parse_from F (below (length vals)) depth 0 (drop at e)) ≡ true
-    pub same : value_from (env_of vals) (stack_of words depth) (parse_from F (below (length vals)) depth 0 (drop at e)) ≡ value_of (env_of vals)
+    pub same : value_from (env_of vals) (stack_of words depth) (parse_from F (below (length vals)) depth 0 (drop at e))
+        ≡ value_of (env_of vals)
         (parse F (below (length vals)) e)
 
   pub start : (words : List ℕ) → length words ≡ 17 → is_whole (parse F (below (length vals)) e) ≡ true → Evaluating words 0 0

@@ -1,6 +1,7 @@
 -- The laws of the check: what an accepted expression is, that its bytes are those of its tokens, how acceptance composes, renames and
 -- widens; and the check at an offset of the bytes that the code holds.
-use Rattle.std.specs.Prelude.{◌≡◌, ℕ, zero, suc, ◌+◌, ◌-◌, ◌<◌, ◌≤◌, Bool, true, false, cond, ◌&&◌, List, [], ◌∷◌, ◌++◌, length, drop, ◌==◌, nat_le, nat_lt}
+use Rattle.std.specs.Prelude.{◌≡◌, ℕ, zero, suc, ◌+◌, ◌-◌, ◌<◌, ◌≤◌, Bool, true, false, cond, ◌&&◌, List, [], ◌∷◌, ◌++◌, length, drop, ◌==◌}
+use Rattle.std.specs.Prelude.{nat_le, nat_lt}
 use Rattle.std.proofs.Common.{arith, sym, ap₂, ◌∙◌, subst, length-drop, take-append-drop, drop_of_length-le, drop_at, drop-drop}
 use Rattle.std.proofs.Math.Path.{refl, ap, fun_ext}
 use Rattle.std.proofs.Math.Option.{Option, none, some}

@@ -1,18 +1,16 @@
 -- The token at an offset is an operand, which is pushed, or an operator, which is applied: which of them, by the size that `operand_of`
 -- gives.
-use Rattle.std.proofs.Common.{◌≡◌, ℕ, ◌+◌, ◌<◌, Bool, true, false, eqb, ◌⊎◌, List, length, get_or, drop, set, sym, refl, ap, ◌∙◌, inl, inr, arith, eqb-true}
+use Rattle.std.proofs.Common.{◌≡◌, ℕ, ◌+◌, ◌<◌, Bool, true, false, eqb, ◌⊎◌, List, length, get_or, drop, set, refl, ap, ◌∙◌, inl, inr}
+use Rattle.std.proofs.Common.{arith, eqb-true}
 use mathlib.Core.Option.{Option, none, some}
 use borrow.Author.Tests.{eqb-false}
 use Rattle.expr.specs.declared.File.{File}
-use Rattle.expr.specs.declared.token.Read.{Read}
-use Rattle.expr.specs.declared.token.Read.TheVariants as R
 use Rattle.expr.specs.declared.eval.Operand.{Operand}
 use Rattle.expr.specs.Number.{number_of}
 use Rattle.expr.specs.Token.{Token, Const, Symbol, Un, Bin, Ite, symbol_code, symbol_width, operator, read_token}
 use Rattle.expr.proofs.ExprLaws.{depth_limit_le}
 use Rattle.expr.specs.Eval.{Env}
-use Rattle.expr.specs.Shown.{shown_token, read_size, popped, pops_of, turned, goes, size_of, operand_of, Stepped}
-use Rattle.expr.proofs.Reading.{shown-nothing, shown-constant, shown-symbol, shown-operator}
+use Rattle.expr.specs.Shown.{popped, pops_of, turned, goes, size_of, operand_of, Stepped}
 use Rattle.expr.proofs.Steps.{Constant, Reads, Operator, constant-stands, symbol-stands, operator-stands, constant-steps}
 use Rattle.expr.proofs.Steps.{symbol-steps}
 
@@ -28,27 +26,6 @@ operator_none F ρ b h = go (operator b) h
     go (some (Un u)) h = refl
     go (some (Bin u)) h = refl
     go (some Ite) h = refl
-
--- what a token puts on the stack, by what is read of it
-abbrev operand : (size word : ℕ) → Operand
-operand n w = record { size = n; word = w }
-
-module _ (F : File) (ρ : Env) (o : Option Token) {t : Read} (q : t ≡ shown_token o) where
-  pub constant_put : {n w : ℕ} → n ≡ read_size F t → t ≡ R.Constant w → operand n w ≡ operand_of F ρ o
-  constant_put {n} {w} z p =
-      ap (λ n. operand n w) (z ∙ ap (read_size F) p) ∙ sym (ap (operand_of F ρ) (shown-constant o w (sym q ∙ p)))
-
-  pub symbol_put : {n s : ℕ} → n ≡ read_size F t → t ≡ R.Symbol s → operand n (ρ s) ≡ operand_of F ρ o
-  symbol_put {n} {s} z p =
-      ap (λ n. operand n (ρ s)) (z ∙ ap (read_size F) p) ∙ sym (ap (operand_of F ρ) (shown-symbol o s (sym q ∙ p)))
-
-  pub operator_put : {b : ℕ} → t ≡ R.Operator b → operand 0 0 ≡ operand_of F ρ o
-  operator_put {b} p =
-      let k = shown-operator o b (sym q ∙ p) in
-      sym (operator_none F ρ b k.pops_some) ∙ ap (operand_of F ρ) (k.by ∙ sym k.is)
-
-  pub nothing_put : t ≡ R.Nothing → operand 0 0 ≡ operand_of F ρ o
-  nothing_put p = sym (ap (operand_of F ρ) (shown-nothing o (sym q ∙ p)))
 
 module _ (F : File) (ρ : Env) (may : ℕ → Bool) (d : ℕ) (s : List ℕ) (i : ℕ) (h : i < length s)
     (q : goes (turned F may d (read_token F (drop i s))) ≡ true) (r : Operand) (told : r ≡ operand_of F ρ (read_token F (drop i s))) where

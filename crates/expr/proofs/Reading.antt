@@ -1,6 +1,7 @@
 -- The token reader at an offset: what stands there, by the byte there and the number of bytes after it; and what the code's values say of
 -- it.
-use Rattle.std.proofs.Common.{◌≡◌, ℕ, ◌+◌, ◌-◌, ◌<◌, ◌≤◌, Bool, true, false, cond, eqb, ltb, List, ◌∷◌, length, get_or, drop, sym, refl, ap, ◌∙◌, subst, add-one, arith, length-drop, drop-cons, ltb-false, ltb-true, eq-eqb, ne_eqb, eqb-true, le-leb}
+use Rattle.std.proofs.Common.{◌≡◌, ℕ, ◌+◌, ◌-◌, ◌<◌, ◌≤◌, Bool, true, false, cond, eqb, ltb, List, ◌∷◌, length, get_or, drop, sym, refl, ap}
+use Rattle.std.proofs.Common.{◌∙◌, subst, add-one, arith, length-drop, drop-cons, ltb-false, ltb-true, eq-eqb, ne_eqb, eqb-true, le-leb}
 use mathlib.Core.Option.{Option, none, some}
 use borrow.Author.Tests.{lt-leb}
 use Rattle.expr.specs.declared.File.{File}

@@ -1,5 +1,6 @@
 -- One turn of the loops over an expression's tokens: what the token at an offset leaves, and how the check goes on from there.
-use Rattle.std.proofs.Common.{◌≡◌, ℕ, suc, ◌+◌, ◌-◌, ◌<◌, ◌≤◌, Bool, true, false, cond, eqb, List, [], ◌∷◌, length, drop, sym, refl, ap, ◌∙◌, ap₂, add-one, arith, length-drop}
+use Rattle.std.proofs.Common.{◌≡◌, ℕ, suc, ◌+◌, ◌-◌, ◌<◌, ◌≤◌, Bool, true, false, cond, eqb, List, [], ◌∷◌, length, drop, sym, refl, ap}
+use Rattle.std.proofs.Common.{◌∙◌, ap₂, add-one, arith, length-drop}
 use mathlib.Core.Option.{Option, none, some}
 use Rattle.expr.specs.declared.File.{File}
 use Rattle.expr.specs.declared.token.Read.TheVariants as R
@@ -12,7 +13,7 @@ use Rattle.expr.specs.TokenLaws.{operator-count, token-there}
 use Rattle.expr.specs.Expr.{depth_limit, pops, after, fits, Parsed, Whole, Breaks, also, on_token, parse_from}
 use Rattle.expr.proofs.ExprLaws.{operator-reads, Fits, fits-is, is-fits, token-at, end-at}
 use Rattle.expr.specs.Shown.{shown_token, pops_of, turned, checked, goes, is_whole}
-use Rattle.expr.proofs.Reading.{shown-nothing, shown-constant, shown-symbol, shown-operator, pops-of}
+use Rattle.expr.proofs.Reading.{shown-constant, shown-symbol, shown-operator, pops-of}
 
 -- ---- what a token leaves
 
@@ -31,9 +32,6 @@ module _ (F : File) (may : ℕ → Bool) (d : ℕ) where
 
   -- by what the token reader says of it
   module _ (o : Option Token) where
-    pub nothing_stops : shown_token o ≡ R.Nothing → turned F may d o ≡ Stop
-    nothing_stops e = ap (turned F may d) (shown-nothing o e)
-
     pub constant-next : (n : ℕ) → shown_token o ≡ R.Constant n → d < depth_limit F → turned F may d o ≡ Next (d + 1) 5
     constant-next n e h =
         ap (turned F may d) (shown-constant o n e)

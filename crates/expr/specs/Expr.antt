@@ -1,5 +1,6 @@
 -- Document 01, "Table and trace bytes": which bytes are an expression.
-use Rattle.std.specs.Prelude.{◌≡◌, ℕ, zero, suc, ◌-◌, Bool, true, false, cond, ◌&&◌, ◌||◌, List, [], ◌∷◌, ◌==◌, nat_le, nat_lt, slice_index_or}
+use Rattle.std.specs.Prelude.{◌≡◌, ℕ, zero, suc, ◌-◌, Bool, true, false, cond, ◌&&◌, ◌||◌, List, [], ◌∷◌, ◌==◌, nat_le, nat_lt}
+use Rattle.std.specs.Prelude.{slice_index_or}
 use Rattle.std.proofs.Math.Option.{Option, none, some}
 use Rattle.expr.specs.declared.File.{File}
 use Rattle.expr.specs.declared.File.TheVariants.{Table, Trace}

@@ -1,6 +1,8 @@
 -- Big-endian numbers: written and read again, read and written again; and at an offset of the bytes that the code holds.
-use Rattle.std.specs.Prelude.{◌≡◌, ℕ, zero, suc, ◌+◌, ◌*◌, ◌/◌, ◌%◌, ◌^◌, ◌<◌, ◌≤◌, List, [], ◌∷◌, ◌++◌, length, take, drop, slice_index, slice_index_or, refl}
-use Rattle.std.proofs.Common.{arith, mod-lt, mod-eq_of_lt, pow-suc, mul-le-mul_right, add-one, sym, ap, ◌∙◌, append-nil, length-drop, take_all, drop-cons, drop-drop}
+use Rattle.std.specs.Prelude.{◌≡◌, ℕ, zero, suc, ◌+◌, ◌*◌, ◌/◌, ◌%◌, ◌^◌, ◌<◌, ◌≤◌, List, [], ◌∷◌, ◌++◌, length, take, drop, slice_index}
+use Rattle.std.specs.Prelude.{slice_index_or, refl}
+use Rattle.std.proofs.Common.{arith, mod-lt, mod-eq_of_lt, pow-suc, mul-le-mul_right, add-one, sym, ap, ◌∙◌, append-nil, length-drop}
+use Rattle.std.proofs.Common.{take_all, drop-cons, drop-drop}
 use Rattle.std.proofs.Math.Arith.{mod-mul}
 use Rattle.expr.specs.Lists.{All}
 use Rattle.expr.specs.Number.{Byte, number_after, number_of, bytes_of}
@@ -75,16 +77,19 @@ number-take a (suc j) (suc l) (x ∷ xs) h = number-take (a * 256 + x) j l xs (o
 
 module _ (s : List ℕ) (i : ℕ) where
   pub byte_at : i + 1 ≤ length s → number_of 1 (drop i s) ≡ slice_index s i
-  byte_at h = ap (number_of 1) (drop-cons s i 0 (omega arith)) ∙ (let q : 0 * 256 + slice_index s i ≡ slice_index_or s i 0 = omega arith in q)
+  byte_at h = ap (number_of 1) (drop-cons s i 0 (omega arith))
+      ∙ (let q : 0 * 256 + slice_index s i ≡ slice_index_or s i 0 = omega arith in q)
 
   pub two_at : i + 2 ≤ length s → number_of 2 (drop i s) ≡ slice_index s i * 256 + slice_index s (i + 1)
   two_at h =
       ap (number_of 2) (drop-cons s i 0 (omega arith) ∙ ap {B = List ℕ} (λ r. slice_index s i ∷ r) (drop-cons s (suc i) 0 (omega arith)))
-      ∙ (let q : (0 * 256 + slice_index s i) * 256 + slice_index s (suc i) ≡ slice_index s i * 256 + slice_index_or s (suc i) 0 = omega arith in q)
+      ∙ (let q : (0 * 256 + slice_index s i) * 256 + slice_index s (suc i) ≡ slice_index s i * 256
+      + slice_index_or s (suc i) 0 = omega arith in q)
       ∙ ap (λ k. slice_index s i * 256 + slice_index s k) (sym (add-one i))
 
 -- four bytes are two numbers of two
-pub four-at : (s : List ℕ) (i : ℕ) → i + 4 ≤ length s → number_of 4 (drop i s) ≡ number_of 2 (drop i s) * 65536 + number_of 2 (drop (i + 2) s)
+pub four-at : (s : List ℕ) (i : ℕ) → i + 4 ≤ length s → number_of 4 (drop i s) ≡ number_of 2 (drop i s) * 65536
+    + number_of 2 (drop (i + 2) s)
 four-at s i h = go (drop i s) (omega (arith, length-drop i s)) ∙ ap (λ r. number_of 2 (drop i s) * 65536 + number_of 2 r) (drop-drop 2 i s)
   where
     go : (bs : List ℕ) → 4 ≤ length bs → number_of 4 bs ≡ number_of 2 bs * 65536 + number_of 2 (drop 2 bs)

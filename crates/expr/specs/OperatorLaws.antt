@@ -1,8 +1,11 @@
 -- What each operator computes, over the width and without the operator's text: on words, no other function meets the laws. Those of
 -- not, and, or and xor, bit by bit, are in `WordLaws`, and so is that every operator gives a word.
-use Rattle.std.specs.Prelude.{◌≡◌, ℕ, zero, suc, ◌+◌, ◌-◌, ◌*◌, ◌/◌, ◌%◌, ◌^◌, ◌<◌, ◌≤◌, Bool, true, false, cond, ◌≢◌, ◌⊎◌, ◌==◌, bit_and, nat_le, nat_lt}
-use Rattle.std.proofs.Common.{arith, add-suc, zero-add, add_comm, mul-suc, mul_assoc, pow-suc, lt_of_lt_of_le, mod-lt, div-one, div-add-mod', add-one, one-add, sym, ◌∙◌, inl, inr, pow-add, pow_mono, shr-shr}
-use Rattle.std.proofs.Math.Nat.{add-zero, mul-zero, zero-mod, mod-eq_of_lt, mod_self, suc-mod, mod-add-mod, add-mod_right, zero-div, div-eq_of_lt}
+use Rattle.std.specs.Prelude.{◌≡◌, ℕ, zero, suc, ◌+◌, ◌-◌, ◌*◌, ◌/◌, ◌%◌, ◌^◌, ◌<◌, ◌≤◌, Bool, true, false, cond, ◌≢◌, ◌⊎◌, ◌==◌, bit_and}
+use Rattle.std.specs.Prelude.{nat_le, nat_lt}
+use Rattle.std.proofs.Common.{arith, add-suc, zero-add, add_comm, mul-suc, mul_assoc, pow-suc, lt_of_lt_of_le, mod-lt, div-one}
+use Rattle.std.proofs.Common.{div-add-mod', add-one, one-add, sym, ◌∙◌, inl, inr, pow-add, pow_mono, shr-shr}
+use Rattle.std.proofs.Math.Nat.{add-zero, mul-zero, zero-mod, mod-eq_of_lt, mod_self, suc-mod, mod-add-mod, add-mod_right, zero-div}
+use Rattle.std.proofs.Math.Nat.{div-eq_of_lt}
 use Rattle.std.proofs.Math.Path.{refl, ap}
 use Rattle.std.proofs.Math.Arith.{lt_of_le-ne, digits_div, digits_mod}
 use Rattle.std.proofs.lemmas.Nat.{shl-shr}

@@ -33,7 +33,8 @@ symbol_width_le Trace = omega arith
 
 -- ---- written, then read
 
-operand-written : (k : ℕ) (token : ℕ → Token) (n : ℕ) (rest : List ℕ) → n < 256 ^ k → operand k token (bytes_of k n ++ rest) ≡ some (token n)
+operand-written : (k : ℕ) (token : ℕ → Token) (n : ℕ) (rest : List ℕ) → n < 256 ^ k → operand k token (bytes_of k n ++ rest)
+    ≡ some (token n)
 operand-written k token n rest h =
     ap (λ b. cond b (some (token (number_of k (bytes_of k n ++ rest)))) none)
     (le-leb k _ (omega (arith, length-append (bytes_of k n) rest, bytes_of-length k n)))

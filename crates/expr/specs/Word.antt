@@ -1,6 +1,7 @@
 -- Document 01, "Arithmetic": the operators on words of w bits. A word is a number below 2 ^ w; the code's words have 32 bits.
 -- They are those of SMT-LIB's FixedSizeBitVectors.
-use Rattle.std.specs.Prelude.{ℕ, ◌+◌, ◌-◌, ◌*◌, ◌/◌, ◌%◌, ◌^◌, ◌<◌, Bool, true, false, cond, not, ℤ, pos, ◌==◌, bit_and, bit_or, bit_xor, int_lt, nat_le, nat_lt}
+use Rattle.std.specs.Prelude.{ℕ, ◌+◌, ◌-◌, ◌*◌, ◌/◌, ◌%◌, ◌^◌, ◌<◌, Bool, true, false, cond, not, ℤ, pos, ◌==◌, bit_and, bit_or, bit_xor}
+use Rattle.std.specs.Prelude.{int_lt, nat_le, nat_lt}
 use Rattle.std.proofs.Math.IntN.{sub_ℕ}
 
 pub data Unary : Type 0 where

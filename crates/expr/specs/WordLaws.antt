@@ -1,7 +1,9 @@
 -- The laws of words, over the width: every operator of words gives a word; what and, or, xor and not do to each bit; signed order
 -- as the unsigned order of raised words. Callers cite these and never an operator's text.
-use Rattle.std.specs.Prelude.{◌≡◌, ℕ, zero, suc, ◌+◌, ◌-◌, ◌*◌, ◌/◌, ◌%◌, ◌^◌, ◌<◌, ◌≤◌, min, max, Bool, true, false, cond, ltb, pos, negsuc, ◌==◌, bit_or, int_lt, nat_le, nat_lt}
-use Rattle.std.proofs.Common.{arith, add-mul, mod-eq_of_lt, pow-suc, le_of_lt, lt_of_le_of_lt, mul-le-mul_left, mul-lt-mul_of_pos_right, sub-one, sym, ap₂, ◌∙◌, subst, pow-add, shr_lt, ltb-true, ltb-false, lt-ltb, le-ltb, ne_eqb}
+use Rattle.std.specs.Prelude.{◌≡◌, ℕ, zero, suc, ◌+◌, ◌-◌, ◌*◌, ◌/◌, ◌%◌, ◌^◌, ◌<◌, ◌≤◌, min, max, Bool, true, false, cond, ltb, pos}
+use Rattle.std.specs.Prelude.{negsuc, ◌==◌, bit_or, int_lt, nat_le, nat_lt}
+use Rattle.std.proofs.Common.{arith, add-mul, mod-eq_of_lt, pow-suc, le_of_lt, lt_of_le_of_lt, mul-le-mul_left, mul-lt-mul_of_pos_right}
+use Rattle.std.proofs.Common.{sub-one, sym, ap₂, ◌∙◌, subst, pow-add, shr_lt, ltb-true, ltb-false, lt-ltb, le-ltb, ne_eqb}
 use Rattle.std.proofs.Math.Nat.{mod-lt, div-le_self}
 use Rattle.std.proofs.Math.Path.{refl, ap, subst⁻¹}
 use Rattle.std.proofs.Math.Arith.{digits_div, digits_mod}

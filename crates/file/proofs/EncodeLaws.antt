@@ -60,7 +60,8 @@ module _ {A St : Type 0} (bytes : A → List ℕ) (one : St → List ℕ → Bod
       )
 
 -- the header of a file, written again
-header-same : (s : List ℕ) → All Byte s → header_size s ≤ length s → header (head_of s) (header_total s) (header_count s) ++ after_header s ≡ s
+header-same : (s : List ℕ) → All Byte s → header_size s ≤ length s → header (head_of s) (header_total s) (header_count s) ++ after_header s
+    ≡ s
 unfolding header head_size header_inputs header_count
 header-same [] o h = absurd (omega arith)
 header-same (a ∷ []) o h = absurd (omega arith)

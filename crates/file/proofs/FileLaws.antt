@@ -1,7 +1,8 @@
 -- The laws of headers, frames and records: what an accepted file is, record after record from any offset.
 use Prim.Native.Nat.{ℕ, zero, suc, ◌+◌, ◌-◌, ◌≤◌, ◌<◌}
 use native.Mathlib.Omega.{arith}
-use Rattle.std.proofs.Common.{add-one, ap₂, ◌∙◌, subst, length-drop, drop_of_length-le, length-take-le, take_all, take-suc, drop-drop, drop-cons, get_or-drop, get_or-append-add}
+use Rattle.std.proofs.Common.{add-one, ap₂, ◌∙◌, subst, length-drop, drop_of_length-le, length-take-le, take_all, take-suc, drop-drop}
+use Rattle.std.proofs.Common.{drop-cons, get_or-drop, get_or-append-add}
 use Rattle.std.proofs.Math.Decide.{dec_lt}
 use Rattle.std.proofs.Math.Path.{◌≡◌, refl, sym, ap, fun_ext}
 use Rattle.std.specs.Prelude.{Bool, ◌&&◌, length, take, drop, get_or, set, replicate}
@@ -25,7 +26,8 @@ use Rattle.expr.specs.Expr.{Parsed, Whole, Breaks, parse}
 use Rattle.expr.specs.Eval.{env_of}
 use Rattle.file.specs.Shown.{fault_at, fine, fault_of, expr_fault, one_more, read_count, reading_of, offsets_from, offsets_in}
 use Rattle.file.specs.declared.Fault.{Fault}
-use Rattle.file.specs.File.{Low, Chain, Head, head_size, input_room, inputs_limit, header_version, header_size, header_total, header_inputs, header_count}
+use Rattle.file.specs.File.{Low, Chain, Head, head_size, input_room, inputs_limit, header_version, header_size, header_total, header_inputs}
+use Rattle.file.specs.File.{header_count}
 use Rattle.file.specs.File.{head_of, after_header, header_reply, header, Refusal, AtRecord, AtToken, Body, Good, Bad, field, rule}
 use Rattle.file.specs.File.{holding, frame, Records, Read}
 use Rattle.file.specs.File.{Stop, Accepted, Refused, record_of, before, on_record, records, finish, read_file}
@@ -470,7 +472,8 @@ module _ {A St : Type 0} (known : ℕ → Bool) (limit : ℕ) (one : (head : Hea
 
       go : (x : Bool) → eqb (header_reply known limit s) 0 ≡ x → (0 < r) × (r ≤ 7)
       go true e =
-          done (body (head_of s) n (after_header s)) refl (sym (file-read known limit body s (eqb-true (header_reply known limit s) 0 e)) ∙ h)
+          done (body (head_of s) n (after_header s)) refl (sym (file-read known limit body s (eqb-true (header_reply known limit s) 0 e))
+          ∙ h)
       go false e =
           let some : header_reply known limit s ≡ 0 → ⊥ = eqb-false (header_reply known limit s) 0 e in
           let f = sym (file-refused known limit body s (header_reply known limit s) refl some) ∙ h in

@@ -47,7 +47,8 @@ module _ {A : Type 0} (one : List ℕ → Body A) (s : List ℕ) (at : ℕ) (a :
   pub body-part : (k : ℕ) → drop k body ≡ rest_of s at (2 + k)
   body-part k =
       drop-take k (frame (drop at s)) (drop 2 (drop at s))
-      ∙ ap₂ (λ m r. take m r) (let e : frame (drop at s) - k ≡ 2 + number_of 2 (drop at s) - (2 + k) = omega (arith, is-frame) in e) (from k)
+      ∙ ap₂ (λ m r. take m r) (let e : frame (drop at s) - k ≡ 2 + number_of 2 (drop at s) - (2 + k) = omega (arith, is-frame) in e)
+      (from k)
 
   pub body-kind : get_or body 0 0 ≡ get_or s (at + 2) 0
   body-kind =

@@ -1,5 +1,6 @@
 -- What the code's values mean: its answers as functions of the definitions.
-use Rattle.std.specs.Prelude.{ℕ, zero, suc, ◌+◌, ◌-◌, ◌≤◌, ◌<◌, ◌≡◌, Bool, true, false, cond, List, [], ◌∷◌, length, take, drop, get_or, eqb}
+use Rattle.std.specs.Prelude.{ℕ, zero, suc, ◌+◌, ◌-◌, ◌≤◌, ◌<◌, ◌≡◌, Bool, true, false, cond, List, [], ◌∷◌, length, take, drop, get_or}
+use Rattle.std.specs.Prelude.{eqb}
 use Rattle.std.proofs.lemmas.List.Edits.{sets}
 use Rattle.expr.specs.Number.{number_of}
 use Rattle.expr.specs.Expr.{Parsed, Whole, Breaks}

@@ -37,7 +37,8 @@ runs : (run_bytes small_rule 1 (0x00 ∷ 0x00 ∷ 0x00 ∷ 0x01 ∷ []) ≡ unsa
     × (run_bytes small_rule 1 (0x00 ∷ 0x00 ∷ 0x00 ∷ []) ≡ refusal 11 0)
     × (run_bytes small_rule 1 (0x00 ∷ 0x00 ∷ 0x00 ∷ 0x01 ∷ 0x00 ∷ []) ≡ refusal 11 0)
     × (run_bytes small_rule 256 [] ≡ refusal 8 0) × (run_bytes [] 256 [] ≡ refusal 1 0)
-unfolding run_bytes read_table is_table read_file header_reply head_size header_inputs header_count inputs_limit input_room records record_of frame
+unfolding run_bytes read_table is_table read_file header_reply head_size header_inputs header_count inputs_limit input_room records
+    record_of frame
     instr parse_from read_token operator fits run value unary binary
 runs = (refl, refl, refl, refl, refl, refl)
 
@@ -68,7 +69,8 @@ run-numbers : (map (λ w. run_number w (run_bytes small_rule 3 (0x00 ∷ 0x00 �
     ≡ 0 ∷ 0 ∷ 1 ∷ 13 ∷ 2 ∷ [])
     × (map (λ w. run_number w (run_bytes cut_table 3 [])) (RunReply ∷ RunOffset ∷ RunVerdict ∷ RunPlace ∷ RunBackJumps ∷ []) ≡ 5 ∷ 6 ∷ 0 ∷ 0
     ∷ 0 ∷ [])
-unfolding run_bytes read_table is_table read_file header_reply head_size header_inputs header_count inputs_limit input_room records record_of frame
+unfolding run_bytes read_table is_table read_file header_reply head_size header_inputs header_count inputs_limit input_room records
+    record_of frame
     instr parse_from read_token operator fits run value unary binary
 run-numbers = (refl, refl)
 
@@ -95,7 +97,8 @@ broken_trace =
     ∷ 0x00 ∷ 0x06 ∷ 0x03 ∷ 0x00 ∷ 0x09 ∷ 0x03 ∷ 0x00 ∷ 0x02
     ∷ 0x00 ∷ 0x06 ∷ 0x03 ∷ 0x00 ∷ 0x09 ∷ 0x03 ∷ 0x00 ∷ 0x03 ∷ []
 
-judge-numbers : (map (λ w. judge_number w (judge_bytes three_tests (0x00 ∷ 0x00 ∷ 0x01 ∷ 0x00 ∷ 0x00 ∷ 0x00 ∷ 0x00 ∷ 0x00 ∷ 0x01 ∷ 0x00 ∷ 0x00
+judge-numbers : (map (λ w. judge_number w (judge_bytes three_tests
+    (0x00 ∷ 0x00 ∷ 0x01 ∷ 0x00 ∷ 0x00 ∷ 0x00 ∷ 0x00 ∷ 0x00 ∷ 0x01 ∷ 0x00 ∷ 0x00
     ∷ 0x00 ∷ [])))
     (JudgeReply ∷ JudgeOffset ∷ JudgeVerdict ∷ JudgePlace ∷ []) ≡ 0 ∷ 0 ∷ 1 ∷ 11 ∷ [])
     × (map (λ w. judge_number w (judge_bytes broken_trace [])) (JudgeReply ∷ JudgeOffset ∷ JudgeVerdict ∷ JudgePlace ∷ []) ≡ 7 ∷ 19 ∷ 0 ∷ 0
@@ -109,7 +112,8 @@ judge-numbers = (refl, refl)
 trace_numbers : (map (λ w. trace_number w (trace_answer small_rule 0 200)) (TraceReply ∷ TraceOffset ∷ TraceLength ∷ []) ≡ 0 ∷ 0 ∷ 156 ∷ [])
     × (map (λ w. trace_number w (trace_answer small_rule 0 155)) (TraceReply ∷ TraceOffset ∷ TraceLength ∷ []) ≡ 10 ∷ 0 ∷ 0 ∷ [])
     × (map (λ w. trace_number w (trace_answer cut_table 0 200)) (TraceReply ∷ TraceOffset ∷ TraceLength ∷ []) ≡ 5 ∷ 6 ∷ 0 ∷ [])
-unfolding trace_answer trace_version read_table is_table read_file header_reply head_size header_inputs header_count inputs_limit input_room records
+unfolding trace_answer trace_version read_table is_table read_file header_reply head_size header_inputs header_count inputs_limit input_room
+    records
     record_of frame instr parse_from read_token operator fits unwind places encode header
 trace_numbers = (refl, refl, refl)
 
@@ -124,9 +128,11 @@ unfolding slice_answer read_trace is_trace trace_version old_version tells_bound
 slice-numbers = (refl, refl)
 
 -- no input and no statement: 45 letters; and a room of 44
-script_numbers : (map (λ w. script_number w (script_answer empty_trace 45)) (ScriptReply ∷ ScriptOffset ∷ ScriptLength ∷ []) ≡ 0 ∷ 0 ∷ 45 ∷ [])
+script_numbers : (map (λ w. script_number w (script_answer empty_trace 45)) (ScriptReply ∷ ScriptOffset ∷ ScriptLength ∷ [])
+    ≡ 0 ∷ 0 ∷ 45 ∷ [])
     × (map (λ w. script_number w (script_answer empty_trace 44)) (ScriptReply ∷ ScriptOffset ∷ ScriptLength ∷ []) ≡ 10 ∷ 0 ∷ 0 ∷ [])
     × (map (λ w. script_number w (script_answer broken_trace 45)) (ScriptReply ∷ ScriptOffset ∷ ScriptLength ∷ []) ≡ 7 ∷ 19 ∷ 0 ∷ [])
-unfolding script_answer read_trace is_trace trace_version old_version tells_bound read_file header_reply head_size header_inputs header_count
+unfolding script_answer read_trace is_trace trace_version old_version tells_bound read_file header_reply head_size header_inputs
+    header_count
     inputs_limit input_room records record_of frame stmt parse_from read_token operator fits violation script_of script_text
 script_numbers = (refl, refl, refl)

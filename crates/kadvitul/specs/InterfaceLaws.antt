@@ -59,7 +59,8 @@ as_answered S valuation answer refused = go (eqb (length valuation) (4 * S))
         sym (ap (λ b. cond b (answer (replicate (suc S) 0)) refused)
         (ne_eqb (length (replicate {A = ℕ} (suc S) 0)) S (λ e. omega (arith, length-replicate {A = ℕ} (suc S) 0))))
 
-pub run_as_words : (s : List ℕ) (K : ℕ) (valuation : List ℕ) → run_bytes s K valuation ≡ run_answer s K (as_words (header_inputs s) valuation)
+pub run_as_words : (s : List ℕ) (K : ℕ) (valuation : List ℕ) → run_bytes s K valuation
+    ≡ run_answer s K (as_words (header_inputs s) valuation)
 unfolding run_answer run_bytes
 run_as_words s K valuation = go (read_table s) refl
   where

@@ -104,7 +104,8 @@ many-bytes : All Byte many_asserts
 many-bytes = (omega arith, (omega arith, (omega arith, (omega arith, (omega arith, (omega arith, (omega arith, asserts-bytes 1024)))))))
 
 many-printed : length (printed many_asserts) ≡ 75686
-unfolding printed decimal trace_answer trace_version slice_answer read_table is_table read_file header_reply head_size header_inputs header_count
+unfolding printed decimal trace_answer trace_version slice_answer read_table is_table read_file header_reply head_size header_inputs
+    header_count
     inputs_limit input_room records record_of frame instr parse_from read_token operator fits unwind places encode header
     read_trace is_trace old_version tells_bound stmt slice
 many-printed = refl

@@ -17,7 +17,8 @@ use Rattle.script.specs.Shown.{script_in}
 use Rattle.script.specs.Answer.{refusal, exported, answered, script_answer, numbers, ScriptWritten}
 
 module _ (s out : List ℕ) where
-  refused_as : (r at : ℕ) (q : Answer) → script_answer s (length out) ≡ refusal r at → q ≡ numbers (refusal r at) → ScriptWritten s out out q
+  refused_as : (r at : ℕ) (q : Answer) → script_answer s (length out) ≡ refusal r at → q ≡ numbers (refusal r at)
+      → ScriptWritten s out out q
   refused_as r at q e h = record { answer = h ∙ sym (ap numbers e); buffer = sym (ap (λ a. over a.bytes out) e) }
 
   pub trace_refuses : (r at : ℕ) → read_trace s ≡ Refused r at → (q : Answer) → q ≡ numbers (refusal r at) → ScriptWritten s out out q

@@ -1,4 +1,5 @@
--- The same over bytes and answers: what the public calls are proved to give, `judge_answer` of `judge` and `script_answer` of `write_script`.
+-- The same over bytes and answers: what the public calls are proved to give, `judge_answer` of `judge` and `script_answer` of
+-- `write_script`.
 use Rattle.std.specs.Prelude.{ℕ, ◌≤◌, ◌≡◌, Bool, cond, ◌↔◌, List, length, leb}
 use Rattle.std.proofs.Common.{arith, sym, ◌∙◌, eq-eqb, le-leb}
 use Rattle.std.proofs.Math.Path.{refl, ap}

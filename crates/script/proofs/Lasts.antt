@@ -6,7 +6,7 @@ use mathlib.Core.Bool.{Bool, true, false, cond, ◌||◌}
 use mathlib.Core.List.{List, [], ◌∷◌}
 use lib.ListN.{length, drop, get_or}
 use lib.Dec.{eqb}
-use borrow.Author.Tests.{eqb-true, eqb-false, eq-eqb, ne_eqb}
+use borrow.Author.Tests.{eqb-true, eqb-false, ne_eqb}
 use Rattle.expr.specs.Lists.{All}
 use Rattle.expr.specs.Number.{Byte, number_of}
 use Rattle.expr.specs.Token.{Token}
@@ -117,7 +117,8 @@ pub record Seeking (s : List ℕ) (n k at seen statements tests : ℕ) : Type 0 
   pub counted : seen ≤ k
   pub notes : Left (listed (read_trace s)) k seen statements tests (drop k (listed (read_trace s)))
 
-pub seeking_start : (s : List ℕ) (n : ℕ) → All Byte s → is_accepted (read_trace s) ≡ true → n ≡ header_count s → {at : ℕ} → at ≡ header_size s
+pub seeking_start : (s : List ℕ) (n : ℕ) → All Byte s → is_accepted (read_trace s) ≡ true → n ≡ header_count s → {at : ℕ} → at
+    ≡ header_size s
     → Seeking s n 0 at 0 0 0
 seeking_start s n o h q front = record {
   passing = pass-start s o h front;
@@ -154,23 +155,9 @@ module _ {s : List ℕ} {n k at seen statements tests : ℕ} (v : Seeking s n k 
         after_le true = omega arith
         after_le false = omega arith
 
-  pub seeking_end : n ≤ k → (statements ≡ length (asserted (listed (read_trace s)))) × (tests ≡ test_count (asserted (listed (read_trace s))))
+  pub seeking_end : n ≤ k → (statements ≡ length (asserted (listed (read_trace s))))
+      × (tests ≡ test_count (asserted (listed (read_trace s))))
   seeking_end h =
       let ts = listed (read_trace s) in
       let w = subst (Left ts k seen statements tests) (pass-end v.passing (omega (arith, v.many))) v.notes in
       (w.last, w.inner)
-
--- ---- one statement
-
-module _ (kind k seen statements tests : ℕ) where
-  pub noted_assign : kind ≡ 1
-      → (seen ≡ seen_after kind seen) × (statements ≡ statements_after kind k statements) × (tests ≡ tests_after kind seen tests)
-  noted_assign e = let n = ne_eqb kind 3 (λ y. omega arith) in (rw (eq-eqb kind 1 e), rw n, rw n)
-
-  pub noted_assert : kind ≡ 3
-      → (seen + 1 ≡ seen_after kind seen) × (k ≡ statements_after kind k statements) × (seen + 1 ≡ tests_after kind seen tests)
-  noted_assert e = (rw (ne_eqb kind 1 (λ y. omega arith)), rw (eq-eqb kind 3 e), rw (eq-eqb kind 3 e))
-
-  pub noted_other : (kind ≡ 1 → ⊥) → (kind ≡ 3 → ⊥)
-      → (seen + 1 ≡ seen_after kind seen) × (statements ≡ statements_after kind k statements) × (tests ≡ tests_after kind seen tests)
-  noted_other m n = (rw (ne_eqb kind 1 m), rw (ne_eqb kind 3 n), rw (ne_eqb kind 3 n))

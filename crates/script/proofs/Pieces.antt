@@ -61,7 +61,8 @@ module _ {s : List ℕ} {at : ℕ} (h : Held symbol_room loose s at) {e : List �
       ∙ sym (ap (piece_in part) (h.is ∙ ap Good (h.assigns k).0))
 
   pub test-piece : (get_or s (at + 2) 0 ≡ 1 → ⊥)
-      → piece part (Test (test_kind (get_or s (at + 2) 0)) 0 (tokens_of (parse Trace (below symbol_room) e))) ≡ piece_in part (held (drop at s))
+      → piece part (Test (test_kind (get_or s (at + 2) 0)) 0 (tokens_of (parse Trace (below symbol_room) e)))
+      ≡ piece_in part (held (drop at s))
   test-piece k =
       ap (λ t. piece part (Test (test_kind (get_or s (at + 2) 0)) 0 t)) (tokens_are h q)
       ∙ test_anywhere part (test_kind (get_or s (at + 2) 0)) 0 (number_of 2 (drop (at + 3) s)) (expr_of h.statement)

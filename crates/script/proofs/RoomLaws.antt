@@ -200,7 +200,8 @@ tested-short k e f = go k
     t : Term
     t = expr_term e
 
-    assumed : length (formula_text (both distinct (hex 0) (expr_term e) f)) ≤ length (term_text (expr_term e)) + length (formula_text f) + 29
+    assumed : length (formula_text (both distinct (hex 0) (expr_term e) f)) ≤ length (term_text (expr_term e)) + length (formula_text f)
+        + 29
     assumed = omega (arith, both-length distinct (hex 0) t f, two-length "distinct" (constant 0) (term_text t), constant-length 0)
 
     go : (k : Kind) → length (formula_text (tested k e f)) ≤ length (term_text (expr_term e)) + length (formula_text f) + 29

@@ -115,7 +115,8 @@ module _ {s : List ℕ} (v : Known s) where
       let all : take n (listed (read_trace s)) ≡ v.ts = ap (take n) listed-is ∙ take_all n v.ts (omega (arith, v.count)) in
       rw (all, p ∙ v.inputs) (sym (ap definitions_text v.is))
 
-  pub script_parts : definitions_text (read_trace s) ++ claim_text (listed (read_trace s)) ++ ascii ")\n(check-sat)\n" ≡ script_in (read_trace s)
+  pub script_parts : definitions_text (read_trace s) ++ claim_text (listed (read_trace s)) ++ ascii ")\n(check-sat)\n"
+      ≡ script_in (read_trace s)
   script_parts =
       ap (λ x. definitions_text x ++ claim_text (listed x) ++ ascii ")\n(check-sat)\n") v.is
       ∙ whole v.head v.ts ∙ sym (ap script_in v.is)

@@ -4,7 +4,8 @@ use Rattle.expr.specs.Word.{Not, Neg, Zero, Add, Sub, Mul, Udiv, Urem, And, Or, 
 use Rattle.expr.specs.Token.{Token, Const, Symbol, Un, Bin, Ite, operator, read_token}
 use Rattle.expr.specs.Expr.{fits, parse_from}
 use Rattle.file.specs.Outcome.{Assume, Assert, Bound}
-use Rattle.file.specs.File.{head_size, header_inputs, header_count, inputs_limit, input_room, header_reply, frame, record_of, records, read_file}
+use Rattle.file.specs.File.{head_size, header_inputs, header_count, inputs_limit, input_room, header_reply, frame, record_of, records}
+use Rattle.file.specs.File.{read_file}
 use Rattle.file.specs.Shown.{listed}
 use Rattle.trace.specs.Trace.{Assign, Test, is_trace, trace_version, old_version, tells_bound, stmt, read_trace}
 use Rattle.trace.specs.Cases.{small_trace0}

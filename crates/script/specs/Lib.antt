@@ -1,5 +1,5 @@
--- What a reader must believe: SMT-LIB's language and its meaning, the script of a trace, its text, and the call's answer. Their laws stand in
--- `proofs/`, but for those of SMT-LIB's operators.
+-- What a reader must believe: SMT-LIB's language and its meaning, the script of a trace, its text, and the call's answer. Their laws stand
+-- in `proofs/`, but for those of SMT-LIB's operators.
 pub mod Smt
 pub mod SmtLaws
 pub mod Script

@@ -26,7 +26,8 @@ pub small : printed (0 ∷ small_rule) ≡ ascii "inputs 1 statements 4\n"
     ++ ascii "0 assign s2 s1 0 ule s0 zero 3 s1 ite s1 ite\n"
     ++ ascii "2 bound s2 2 ule 1 zero 1 ite\n"
     ++ ascii "3 assert s2 3 ule 0 1 ite\n"
-unfolding printed decimal trace_answer trace_version slice_answer read_table is_table read_file header_reply head_size header_inputs header_count
+unfolding printed decimal trace_answer trace_version slice_answer read_table is_table read_file header_reply head_size header_inputs
+    header_count
     inputs_limit input_room records record_of frame instr parse_from read_token operator fits unwind places encode header
     read_trace is_trace old_version tells_bound stmt slice
 small = refl
@@ -43,7 +44,8 @@ with_a_back-jump : printed (1 ∷ small_rule)
     ++ ascii "5 assign s6 s5 5 ule s3 zero 8 s5 ite s5 ite\n"
     ++ ascii "7 bound s6 7 ule 1 zero 1 ite\n"
     ++ ascii "8 assert s6 8 ule 0 1 ite\n"
-unfolding printed decimal trace_answer trace_version slice_answer read_table is_table read_file header_reply head_size header_inputs header_count
+unfolding printed decimal trace_answer trace_version slice_answer read_table is_table read_file header_reply head_size header_inputs
+    header_count
     inputs_limit input_room records record_of frame instr parse_from read_token operator fits unwind places encode header
     read_trace is_trace old_version tells_bound stmt slice
 with_a_back-jump = refl
@@ -59,7 +61,8 @@ refusals : (printed [] ≡ ascii "refused 1 at 0\n") × (printed (0 ∷ []) ≡ 
     × (printed (0 ∷ 2 ∷ 0 ∷ 6 ∷ 0 ∷ 0 ∷ 0 ∷ []) ≡ ascii "refused 2 at 0\n")
     × (printed (255 ∷ 1 ∷ 0 ∷ 7 ∷ 0 ∷ 0 ∷ 0 ∷ []) ≡ ascii "refused 3 at 0\n")
     × (printed (0 ∷ 1 ∷ 0 ∷ 7 ∷ 0 ∷ 0 ∷ 0 ∷ 9 ∷ []) ≡ ascii "refused 5 at 6\n")
-unfolding printed decimal trace_answer trace_version read_table is_table read_file header_reply head_size header_inputs header_count inputs_limit
+unfolding printed decimal trace_answer trace_version read_table is_table read_file header_reply head_size header_inputs header_count
+    inputs_limit
     input_room records
 refusals = (refl, refl, refl, refl, refl)
 

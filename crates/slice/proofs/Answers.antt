@@ -61,7 +61,8 @@ module _ (s : List ℕ) (is : read_trace s ≡ Accepted (head_of s) (listed (rea
     sliced b e = ap (answered (length out)) is ∙ ap (λ b. cond b (slice_of head (slice ts)) (refusal 10 0)) e
 
     pub no_room : length out < size + k.size → (r : Answer) → r ≡ numbers (refusal 10 0) → SliceWritten s out out r
-    no_room h r = refused_as s out 10 0 r (sliced false (lt-leb (length (encode_trace head (slice ts))) (length out) (omega (arith, total))))
+    no_room h r = refused_as s out 10 0 r (sliced false (lt-leb (length (encode_trace head (slice ts))) (length out)
+        (omega (arith, total))))
 
     module _ (h : size + k.size ≤ length out) {p : List ℕ} {to : ℕ} (u : Wrote out 0 (header (head_of s) (size + k.size) k.count) p to)
         (front : to ≡ header_size s) where

@@ -59,7 +59,8 @@ module _ {ts : List Stmt} {flags : List Bool} {out₀ : List ℕ} {to : ℕ} {ou
           ∙ ap₂ (λ c us. kept_bytes (get_or flags k false) c ++ records_bytes stmt_bytes us) (sym g)
           (ap₂ kept (ap (λ j. drop j flags) (sym (add-one k))) rest)
 
-      pub copy_room : to + length (records_bytes stmt_bytes (kept flags ts)) ≤ length out₀ → at + length (kept_bytes (get_or flags k false) b)
+      pub copy_room : to + length (records_bytes stmt_bytes (kept flags ts)) ≤ length out₀ → at
+          + length (kept_bytes (get_or flags k false) b)
           ≤ length out
       copy_room r =
           omega (

@@ -2,19 +2,13 @@
 use Prim.Native.Nat.{ℕ, ◌+◌, ◌≤◌, ◌<◌}
 use mathlib.Core.Path.{◌≡◌, refl, sym, ap, ◌∙◌}
 use mathlib.Core.Bool.{Bool, true, false, ◌||◌}
-use mathlib.Core.Option.{Option}
 use mathlib.Core.List.{List}
 use lib.ListN.{length, drop}
-use lib.Dec.{eqb}
 use Rattle.expr.specs.declared.File.TheVariants.{Trace}
-use Rattle.expr.specs.declared.token.Read.{Read}
-use Rattle.expr.specs.declared.token.Read.TheVariants as R
-use Rattle.expr.specs.Token.{Token, Const, Symbol, Un, Bin, Ite, read_token}
-use Rattle.expr.specs.TokenLaws.{IsOperator}
+use Rattle.expr.specs.Token.{read_token}
 use Rattle.expr.specs.Expr.{below, parse}
 use Rattle.expr.specs.Eval.{reads_token, reads}
-use Rattle.expr.specs.Shown.{shown_token, read_size, is_whole, tokens_of, size_of}
-use Rattle.expr.proofs.Reading.{shown-nothing, shown-constant, shown-symbol, shown-operator, read-size}
+use Rattle.expr.specs.Shown.{is_whole, tokens_of, size_of}
 use Rattle.expr.proofs.Rests.{Rest, tokens, rest-start, turn, rest_end}
 use Rattle.slice.specs.Shown.{in_set, room_in, reads_read}
 
@@ -25,37 +19,6 @@ abbrev Marks : (e : List ℕ) (i m : ℕ) (needed needed' : List ℕ) → Type 0
 Marks e i m needed needed' =
     (m ≡ size_of Trace (read_token Trace (drop i e)))
     × ((x : ℕ) → in_set needed' x ≡ (reads_read x (read_token Trace (drop i e)) || in_set needed x))
-
-module _ (e : List ℕ) (i : ℕ) {t : Read} (q : t ≡ shown_token (read_token Trace (drop i e))) {m : ℕ} (n : m ≡ read_size Trace t)
-    (needed : List ℕ) where
-  abbrev o : Option Token
-  o = read_token Trace (drop i e)
-
-  pub symbol_marks : {s : ℕ} → t ≡ R.Symbol s → (needed' : List ℕ) → ((x : ℕ) → in_set needed' x ≡ (eqb x s || in_set needed x))
-      → Marks e i m needed needed'
-  symbol_marks {s} p needed' r =
-      (n ∙ read-size Trace o q, λ x. r x ∙ sym (ap (λ o. reads_read x o || in_set needed x) (shown-symbol o s (sym q ∙ p))))
-
-  -- what is no symbol marks nothing
-  reads_none : ((x : ℕ) → reads_read x o ≡ false) → Marks e i m needed needed
-  reads_none h = (n ∙ read-size Trace o q, λ x. sym (ap (λ b. b || in_set needed x) (h x)))
-
-  pub constant_marks : {w : ℕ} → t ≡ R.Constant w → Marks e i m needed needed
-  constant_marks {w} p = reads_none (λ x. ap (reads_read x) (shown-constant o w (sym q ∙ p)))
-
-  pub operator_marks : {b : ℕ} → t ≡ R.Operator b → Marks e i m needed needed
-  operator_marks {b} p = let k = shown-operator o b (sym q ∙ p) in
-      reads_none (λ x. ap (reads_read x) k.is ∙ go x k.token k.operates)
-    where
-      go : (x : ℕ) (t : Token) → IsOperator t → reads_token x t ≡ false
-      go x (Const n) o = absurd o
-      go x (Symbol s) o = absurd o
-      go x (Un u) o = refl
-      go x (Bin u) o = refl
-      go x Ite o = refl
-
-  pub nothing_marks : t ≡ R.Nothing → Marks e i m needed needed
-  nothing_marks p = reads_none (λ x. ap (reads_read x) (shown-nothing o (sym q ∙ p)))
 
 -- ---- the loop
 

@@ -16,7 +16,7 @@ use Rattle.expr.specs.Expr.{below, parse}
 use Rattle.expr.specs.Eval.{reads}
 use Rattle.expr.specs.Shown.{tokens_of}
 use Rattle.file.specs.Outcome.{Assume, Assert, Bound}
-use Rattle.file.specs.File.{Body, Good, Bad, frame, record_bytes}
+use Rattle.file.specs.File.{Good, frame, record_bytes}
 use Rattle.file.specs.Shown.{rest_of}
 use Rattle.file.proofs.RecordLaws.{read-body, body-length}
 use Rattle.file.proofs.EncodeLaws.{record_same}
@@ -28,14 +28,6 @@ use Rattle.trace.proofs.Moves.{expr-whole}
 use Rattle.slice.specs.declared.back.Kept.{Kept}
 use Rattle.trace.specs.Asserts.{is_assert}
 use Rattle.slice.specs.Shown.{in_set, reads_in, keep_in, asserts_in, Stepped}
-
--- a statement that is not kept is no Assert
-unkept : (asserts : Bool) (needed : ℕ → Bool) (b : Body Stmt) → keep_in asserts needed b ≡ false → asserts ≡ (asserts_in b || asserts)
-unkept asserts needed (Good (Assign p x e)) h = refl
-unkept asserts needed (Good (Test Assume p e)) h = refl
-unkept asserts needed (Good (Test Assert p e)) h = absurd (let z : ◌≡◌ {A = ℕ} 0 1 = cc in omega arith)
-unkept asserts needed (Good (Test Bound p e)) h = refl
-unkept asserts needed (Bad r) h = refl
 
 module _ {s : List ℕ} {at : ℕ} (h : Held symbol_room loose s at) where
   assign-is : get_or s (at + 2) 0 ≡ 1 → held (drop at s)
@@ -102,13 +94,6 @@ module _ {s : List ℕ} {at : ℕ} (h : Held symbol_room loose s at) where
       asserts = p ∙ sym (ap (λ c. c || behind.asserts) asserts-is);
       keeps = λ z. (refl, refl, ap (λ n. behind.size + (2 + n)) l, m);
       drops = λ z. absurd (let w : ◌≡◌ {A = Bool} true false = sym y ∙ q ∙ z in let u : ◌≡◌ {A = ℕ} 0 1 = cc in omega arith);
-    }
-
-    pub stepped_dropped : b ≡ false → Stepped (held (drop at s)) (2 + number_of 2 (drop at s)) k behind kept needed kept needed behind
-    stepped_dropped n = record {
-      asserts = unkept behind.asserts (in_set needed) (held (drop at s)) (sym q ∙ n);
-      keeps = λ z. absurd (let w : ◌≡◌ {A = Bool} true false = sym z ∙ sym q ∙ n in let u : ◌≡◌ {A = ℕ} 0 1 = cc in omega arith);
-      drops = λ z. (refl, refl, refl, refl);
     }
 
 -- ---- its bytes

@@ -150,7 +150,8 @@ module _ (ts : List Stmt) (σ τ : Seen) (p x : ℕ) (e : List Token) where
   }
 
 module _ (S : ℕ) (ts : List Stmt) (ih : (σ τ : Seen) → Covers (slice ts) σ τ → StmtsOk S σ ts → StmtsOk S τ (slice ts)) (σ τ : Seen) where
-  assign-ok : (p x : ℕ) (e : List Token) (b : Bool) → reads_trace x (slice ts) ≡ b → Covers (cond b (Assign p x e ∷ slice ts) (slice ts)) σ τ
+  assign-ok : (p x : ℕ) (e : List Token) (b : Bool) → reads_trace x (slice ts) ≡ b
+      → Covers (cond b (Assign p x e ∷ slice ts) (slice ts)) σ τ
       → StmtsOk S σ (Assign p x e ∷ ts) → StmtsOk S τ (cond b (Assign p x e ∷ slice ts) (slice ts))
   assign-ok p x e true n c ((a, l, m, o), os) = (
     (

@@ -24,7 +24,8 @@ use Rattle.slice.specs.Shown.{in_set, reads_in, keep_stmt, keep_in, asserts_in, 
 -- ---- the bytes of a trace
 
 -- an accepted trace is its header and its records, so these are fewer than 65,536 bytes
-pub records-small : (s : List ℕ) → All Byte s → is_accepted (read_trace s) ≡ true → length (records_bytes stmt_bytes (listed (read_trace s)))
+pub records-small : (s : List ℕ) → All Byte s → is_accepted (read_trace s) ≡ true
+    → length (records_bytes stmt_bytes (listed (read_trace s)))
     < 65536
 records-small s o h = go (read_trace s) refl h
   where
@@ -171,7 +172,8 @@ module _ {ts : List Stmt} {kept₀ : List Bool} {needed₀ : List ℕ} {kept : L
         go true e =
             let (f, c, z, m) = st.keeps e in
             on_as (t ∷ slice xs) (sliced true e)
-            (λ i l. ap (λ fs. get_or fs i false) f ∙ get_or-set_other kept (k - 1) i true false (λ y. omega arith) ∙ w.clear i (omega arith))
+            (λ i l. ap (λ fs. get_or fs i false) f ∙ get_or-set_other kept (k - 1) i true false (λ y. omega arith)
+            ∙ w.clear i (omega arith))
             (omega (arith, c, count-is))
             (omega (arith, z, size_is, sized, length-append (record_bytes stmt_bytes t) (records_bytes stmt_bytes (slice xs))))
             (λ x. m x ∙ ap (λ b. reads_in x (Good t) || b) (reads-is x) ∙ sym (reads_first x t (slice xs)))

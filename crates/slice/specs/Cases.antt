@@ -37,7 +37,8 @@ small_slice0 =
     ∷ 0x01 ∷ 0x00 ∷ 0x00 ∷ 0x00 ∷ 0x01 ∷ 0x30 ∷ []
 
 -- m5: the slice has 102 bytes, mask 1, count 1; a room that is one byte short is 10
-pub m5 : (slice_answer small_trace0 102 ≡ sliced small_slice0 1 1) × (length small_slice0 ≡ 102) × (slice_answer small_trace0 101 ≡ refusal 10 0)
+pub m5 : (slice_answer small_trace0 102 ≡ sliced small_slice0 1 1) × (length small_slice0 ≡ 102)
+    × (slice_answer small_trace0 101 ≡ refusal 10 0)
 unfolding slice_answer read_trace is_trace trace_version old_version tells_bound read_file header_reply head_size header_inputs header_count
     inputs_limit input_room records record_of frame stmt parse_from read_token operator fits slice encode header ones
 m5 = (refl, refl, refl)

@@ -39,7 +39,8 @@ module _ (s : List ℕ) where
   header_read = Reading.header_read is_table 1024 one next first s
 
   -- with the code's own numbers of inputs and records
-  pub records-read : header_reply is_table 1024 s ≡ 0 → {S n : ℕ} → S ≡ header_inputs s → n ≡ header_count s → {off off' : List ℕ} {r : Reading}
+  pub records-read : header_reply is_table 1024 s ≡ 0 → {S n : ℕ} → S ≡ header_inputs s → n ≡ header_count s
+      → {off off' : List ℕ} {r : Reading}
       → ReadRecords s S n off off' r → ReadTable s off off' r
   unfolding read_table
   records-read h {S} {n} i e {off} {off'} {r} w = Reading.records-read is_table 1024 one next first s h

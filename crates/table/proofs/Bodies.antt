@@ -41,7 +41,8 @@ module _ (S n : ℕ) (body : List ℕ) (h : 0 < length body) where
   pub assign-expr : get_or body 0 0 ≡ 1 → 2 ≤ length body → number_of 1 rest < S
       → wrong ≡ expr_fault (length body) (parse Table (below S) (drop 2 body))
   assign-expr e l r =
-      ap (fault_of (length body)) (assigned e l ∙ ap (λ b. rule b (holding (Assign (number_of 1 rest)) (parse Table (below S) (drop 2 body))))
+      ap (fault_of (length body)) (assigned e l ∙ ap (λ b. rule b
+      (holding (Assign (number_of 1 rest)) (parse Table (below S) (drop 2 body))))
       (lt-ltb (number_of 1 rest) S r))
       ∙ fault_holding (length body) (Assign (number_of 1 rest)) (parse Table (below S) (drop 2 body))
 

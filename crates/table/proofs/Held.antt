@@ -102,7 +102,11 @@ module _ (T n : ℕ) (s : List ℕ) (at : ℕ) where
         }
     held x g (says_goto e k h m p) =
         let c : get_or s (at + 2) 0 ≡ 4 = sym kind ∙ k in
-        let q : expr_start (get_or s (at + 2) 0) ≡ 5 = rw (ne_eqb (get_or s (at + 2) 0) 1 (λ z. omega arith), eq-eqb (get_or s (at + 2) 0) 4 c) in
+        let q : expr_start (get_or s (at + 2) 0) ≡ 5 = rw (
+          ne_eqb (get_or s (at + 2) 0) 1 (λ z. omega arith),
+          eq-eqb
+              (get_or s (at + 2) 0) 4 c,
+        ) in
         let v = number 2 h in
         record {
           instruction = IfThenGoto (number_of 2 (drop 1 body)) e;

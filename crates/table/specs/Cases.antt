@@ -35,22 +35,26 @@ abbrev pub unsafe_at : (place back_jumps : ℕ) → Answer
 unsafe_at p r = record { reply = 0; offset = 0; verdict = 1; place = p; back_jumps = r }
 
 pub m1 : run_answer small_rule 0 (0 ∷ []) ≡ unsafe_at 3 0
-unfolding run_answer read_table is_table read_file header_reply head_size header_inputs header_count inputs_limit input_room records record_of frame
+unfolding run_answer read_table is_table read_file header_reply head_size header_inputs header_count inputs_limit input_room records
+    record_of frame
     instr parse_from read_token operator fits run value unary binary
 m1 = refl
 
 pub m2 : run_answer small_rule 0 (1 ∷ []) ≡ cut 0
-unfolding run_answer read_table is_table read_file header_reply head_size header_inputs header_count inputs_limit input_room records record_of frame
+unfolding run_answer read_table is_table read_file header_reply head_size header_inputs header_count inputs_limit input_room records
+    record_of frame
     instr parse_from read_token operator fits run value unary binary
 m2 = refl
 
 pub m3 : run_answer small_rule 1 (1 ∷ []) ≡ unsafe_at 8 1
-unfolding run_answer read_table is_table read_file header_reply head_size header_inputs header_count inputs_limit input_room records record_of frame
+unfolding run_answer read_table is_table read_file header_reply head_size header_inputs header_count inputs_limit input_room records
+    record_of frame
     instr parse_from read_token operator fits run value unary binary
 m3 = refl
 
 pub m4 : run_answer small_rule 1 (2 ∷ []) ≡ cut 1
-unfolding run_answer read_table is_table read_file header_reply head_size header_inputs header_count inputs_limit input_room records record_of frame
+unfolding run_answer read_table is_table read_file header_reply head_size header_inputs header_count inputs_limit input_room records
+    record_of frame
     instr parse_from read_token operator fits run value unary binary
 m4 = refl
 
@@ -62,7 +66,8 @@ m11 = refl
 bounds : (run_answer small_rule 255 (255 ∷ []) ≡ unsafe_at 1278 255) × (run_answer small_rule 256 (255 ∷ []) ≡ refusal 8 0)
     × (run_answer small_rule 256 [] ≡ refusal 8 0)
     × (run_answer small_rule 0 [] ≡ refusal 11 0)
-unfolding run_answer read_table is_table read_file header_reply head_size header_inputs header_count inputs_limit input_room records record_of frame
+unfolding run_answer read_table is_table read_file header_reply head_size header_inputs header_count inputs_limit input_room records
+    record_of frame
     instr parse_from read_token operator fits run value unary binary
 bounds = (refl, refl, refl, refl)
 
@@ -102,7 +107,8 @@ second e =
 -- spare bytes are judged after all records: a 7 in the last record comes first
 spare : (read_table (0x01 ∷ 0x00 ∷ 0x0B ∷ 0x00 ∷ 0x00 ∷ 0x01 ∷ 0x00 ∷ 0x01 ∷ 0x02 ∷ 0x00 ∷ 0x00 ∷ []) ≡ Refused 7 9)
     × (read_table (0x01 ∷ 0x00 ∷ 0x08 ∷ 0x00 ∷ 0x00 ∷ 0x00 ∷ 0x00 ∷ 0x00 ∷ []) ≡ Refused 5 6)
-unfolding read_table is_table read_file header_reply head_size header_inputs header_count inputs_limit input_room records record_of frame instr
+unfolding read_table is_table read_file header_reply head_size header_inputs header_count inputs_limit input_room records record_of frame
+    instr
     parse_from
 spare = (refl, refl)
 
@@ -114,7 +120,8 @@ pointing : (read_table (second (0x02 ∷ 0x00 ∷ 0x02 ∷ 0x01 ∷ 0x20 ∷ [])
     × (read_table (second (0x03 ∷ 0x00 ∷ 0x00 ∷ [])) ≡ Refused 7 15)
     × (read_table (second (0x02 ∷ 0x00 ∷ 0x02 ∷ 0x00 ∷ [])) ≡ Refused 7 19)
     × (read_table (second []) ≡ Refused 7 15)
-unfolding read_table is_table read_file header_reply head_size header_inputs header_count inputs_limit input_room records record_of frame instr
+unfolding read_table is_table read_file header_reply head_size header_inputs header_count inputs_limit input_room records record_of frame
+    instr
     parse_from read_token fits operator
 pointing = (refl, refl, refl, refl, refl, refl)
 
@@ -122,14 +129,16 @@ pointing = (refl, refl, refl, refl, refl, refl)
 faults : (read_table (0x01 ∷ 0x00 ∷ 0x0B ∷ 0x00 ∷ 0x00 ∷ 0x01 ∷ 0x00 ∷ 0x03 ∷ 0x04 ∷ 0x00 ∷ 0x02 ∷ []) ≡ Refused 6 6)
     × (read_table (0x01 ∷ 0x00 ∷ 0x09 ∷ 0x00 ∷ 0x00 ∷ 0x01 ∷ 0x00 ∷ 0x01 ∷ 0x00 ∷ []) ≡ Refused 5 6)
     × (read_table (0x01 ∷ 0x00 ∷ 0x09 ∷ 0x00 ∷ 0x00 ∷ 0x01 ∷ 0x00 ∷ 0x01 ∷ 0x05 ∷ []) ≡ Refused 5 6)
-unfolding read_table is_table read_file header_reply head_size header_inputs header_count inputs_limit input_room records record_of frame instr
+unfolding read_table is_table read_file header_reply head_size header_inputs header_count inputs_limit input_room records record_of frame
+    instr
     parse_from
 faults = (refl, refl, refl)
 
 -- a self jump is a back jump: (0) if 1 go to 0
 self_jump : run_answer (0x01 ∷ 0x00 ∷ 0x10 ∷ 0x00 ∷ 0x00 ∷ 0x01 ∷ 0x00 ∷ 0x08 ∷ 0x04 ∷ 0x00 ∷ 0x00 ∷ 0x01 ∷ 0x00 ∷ 0x00 ∷ 0x00 ∷ 0x01 ∷ [])
     7 [] ≡ cut 7
-unfolding run_answer read_table is_table read_file header_reply head_size header_inputs header_count inputs_limit input_room records record_of frame
+unfolding run_answer read_table is_table read_file header_reply head_size header_inputs header_count inputs_limit input_room records
+    record_of frame
     instr parse_from read_token operator fits run value
 self_jump = refl
 
@@ -144,7 +153,8 @@ tested =
 
 tests : (run_answer tested 3 (0 ∷ 0 ∷ []) ≡ unsafe_at 0 0) × (run_answer tested 3 (2 ∷ 0 ∷ []) ≡ stopped 0)
     × (run_answer tested 3 (2147483648 ∷ 2 ∷ []) ≡ unsafe_at 2 0)
-unfolding run_answer read_table is_table read_file header_reply head_size header_inputs header_count inputs_limit input_room records record_of frame
+unfolding run_answer read_table is_table read_file header_reply head_size header_inputs header_count inputs_limit input_room records
+    record_of frame
     instr parse_from read_token operator fits run value
 tests = (refl, refl, refl)
 
@@ -156,7 +166,8 @@ leaps =
     ∷ 0x00 ∷ 0x06 ∷ 0x03 ∷ 0x01 ∷ 0x00 ∷ 0x00 ∷ 0x00 ∷ 0x00 ∷ []
 
 to_the_end : (run_answer leaps 0 (1 ∷ []) ≡ ended 0) × (run_answer leaps 0 (0 ∷ []) ≡ unsafe_at 1 0)
-unfolding run_answer read_table is_table read_file header_reply head_size header_inputs header_count inputs_limit input_room records record_of frame
+unfolding run_answer read_table is_table read_file header_reply head_size header_inputs header_count inputs_limit input_room records
+    record_of frame
     instr parse_from read_token operator fits run value
 to_the_end = (refl, refl)
 
@@ -174,7 +185,8 @@ leaves =
 ends_through_target_n : (run_answer leaves 7 (0 ∷ []) ≡ ended 0) × (run_answer leaves 7 (1 ∷ []) ≡ ended 1)
     × (run_answer leaves 7 (2 ∷ []) ≡ ended 2) × (run_answer leaves 7 (3 ∷ []) ≡ ended 3) × (run_answer leaves 3 (3 ∷ []) ≡ ended 3)
     × (run_answer leaves 2 (3 ∷ []) ≡ cut 2) × (run_answer leaves 0 (1 ∷ []) ≡ cut 0)
-unfolding run_answer read_table is_table read_file header_reply head_size header_inputs header_count inputs_limit input_room records record_of frame
+unfolding run_answer read_table is_table read_file header_reply head_size header_inputs header_count inputs_limit input_room records
+    record_of frame
     instr parse_from read_token operator fits run value unary binary
 ends_through_target_n = (refl, refl, refl, refl, refl, refl, refl)
 
@@ -185,10 +197,12 @@ falls =
     ∷ 0x00 ∷ 0x0A ∷ 0x01 ∷ 0x00 ∷ 0x02 ∷ 0x00 ∷ 0x01 ∷ 0x00 ∷ 0x00 ∷ 0x00 ∷ 0x01 ∷ 0x21
     ∷ 0x00 ∷ 0x05 ∷ 0x04 ∷ 0x00 ∷ 0x00 ∷ 0x02 ∷ 0x00 ∷ []
 
-falls_off_the_end : (run_answer falls 7 (1 ∷ []) ≡ ended 0) × (run_answer falls 7 (2 ∷ []) ≡ ended 1) × (run_answer falls 7 (3 ∷ []) ≡ ended 2)
+falls_off_the_end : (run_answer falls 7 (1 ∷ []) ≡ ended 0) × (run_answer falls 7 (2 ∷ []) ≡ ended 1)
+    × (run_answer falls 7 (3 ∷ []) ≡ ended 2)
     × (run_answer falls 7 (4 ∷ []) ≡ ended 3) × (run_answer falls 3 (4 ∷ []) ≡ ended 3) × (run_answer falls 2 (4 ∷ []) ≡ cut 2)
     × (run_answer falls 255 (5 ∷ []) ≡ ended 4)
-unfolding run_answer read_table is_table read_file header_reply head_size header_inputs header_count inputs_limit input_room records record_of frame
+unfolding run_answer read_table is_table read_file header_reply head_size header_inputs header_count inputs_limit input_room records
+    record_of frame
     instr parse_from read_token operator fits run value binary
 falls_off_the_end = (refl, refl, refl, refl, refl, refl, refl)
 
@@ -208,7 +222,8 @@ two_loops =
 shared_bound : (run_answer two_loops 2 (3 ∷ 1 ∷ []) ≡ unsafe_at 16 2) × (run_answer two_loops 2 (1 ∷ 3 ∷ []) ≡ unsafe_at 16 2)
     × (run_answer two_loops 2 (3 ∷ 2 ∷ []) ≡ cut 2) × (run_answer two_loops 3 (3 ∷ 2 ∷ []) ≡ unsafe_at 22 3)
     × (run_answer two_loops 255 (3 ∷ 2 ∷ []) ≡ unsafe_at 22 3)
-unfolding run_answer read_table is_table read_file header_reply head_size header_inputs header_count inputs_limit input_room records record_of frame
+unfolding run_answer read_table is_table read_file header_reply head_size header_inputs header_count inputs_limit input_room records
+    record_of frame
     instr parse_from read_token operator fits run value binary
 shared_bound = (refl, refl, refl, refl, refl)
 
@@ -223,7 +238,8 @@ abbrev pub many_asserts : List ℕ
 many_asserts = 0x01 ∷ 0x14 ∷ 0x06 ∷ 0x01 ∷ 0x04 ∷ 0x00 ∷ asserts 1024
 
 many : (length many_asserts ≡ 5126) × (run_answer many_asserts 1 (1 ∷ []) ≡ ended 0) × (run_answer many_asserts 1 (0 ∷ []) ≡ unsafe_at 0 0)
-unfolding run_answer read_table is_table read_file header_reply head_size header_inputs header_count inputs_limit input_room records record_of frame
+unfolding run_answer read_table is_table read_file header_reply head_size header_inputs header_count inputs_limit input_room records
+    record_of frame
     instr parse_from read_token operator fits run value
 many = (refl, refl, refl)
 
@@ -241,7 +257,8 @@ abbrev last_fails : List ℕ
 last_fails = 0x01 ∷ 0x14 ∷ 0x06 ∷ 0x02 ∷ 0x04 ∷ 0x00 ∷ asserts 1023 ++ 0x00 ∷ 0x03 ∷ 0x03 ∷ 0x02 ∷ 0x01 ∷ []
 
 last-fails : (run_answer last_fails 0 (1 ∷ 0 ∷ []) ≡ unsafe_at 1023 0) × (run_answer last_fails 0 (1 ∷ 1 ∷ []) ≡ ended 0)
-unfolding run_answer read_table is_table read_file header_reply head_size header_inputs header_count inputs_limit input_room records record_of frame
+unfolding run_answer read_table is_table read_file header_reply head_size header_inputs header_count inputs_limit input_room records
+    record_of frame
     instr parse_from read_token operator fits run value
 last-fails = (refl, refl)
 
@@ -258,6 +275,7 @@ far =
 
 -- places of a run pass 65,535: 63 × 1,025 + 1,023, and the greatest of all, 255 × 1,025 + 1,023
 far-places : (run_answer far 63 (64 ∷ []) ≡ unsafe_at 65598 63) × (run_answer far 255 (256 ∷ []) ≡ unsafe_at 262398 255)
-unfolding run_answer read_table is_table read_file header_reply head_size header_inputs header_count inputs_limit input_room records record_of frame
+unfolding run_answer read_table is_table read_file header_reply head_size header_inputs header_count inputs_limit input_room records
+    record_of frame
     instr parse_from read_token operator fits run value binary
 far-places = (refl, refl)

@@ -104,7 +104,8 @@ module _ (S : ℕ) (is : List Instr) (K : ℕ) (ok : All (InstrOk S (length is))
       })
       (λ x xs e l. here l (step n K i r x ρ) (step-leads n K i r l k S x ρ (all-at (InstrOk S n) is i x xs e ok)) (run-from-placed f))
     where
-      here : i < n → (x : Next) → Leads n K i r x → ((j q : ℕ) (τ : Env) → j ≤ n → q ≤ K → left n K j q ≤ f → Placed (run_from is K f j q τ))
+      here : i < n → (x : Next) → Leads n K i r x → ((j q : ℕ) (τ : Env) → j ≤ n → q ≤ K → left n K j q ≤ f
+          → Placed (run_from is K f j q τ))
           → Placed (onward x r (run_from is K f))
       here l x (fails c) rest = record {
         few = k;

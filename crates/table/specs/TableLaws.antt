@@ -1,6 +1,7 @@
 -- The laws of reading a table: a record by its kind; what is read is well formed; where each instruction stands.
 use Rattle.std.specs.Prelude.{ℕ, zero, suc, ◌+◌, ◌≤◌, ◌<◌, ◌≡◌, Bool, true, false, cond, length, take, drop, get_or, eqb, leb, ltb}
-use Rattle.std.proofs.Common.{arith, sym, ap, ◌∙◌, subst, length-drop, length-take-le, drop-drop, eqb-true, eq-eqb, ne_eqb, le-leb, leb-true, ltb-true, lt-ltb}
+use Rattle.std.proofs.Common.{arith, sym, ap, ◌∙◌, subst, length-drop, length-take-le, drop-drop, eqb-true, eq-eqb, ne_eqb, le-leb}
+use Rattle.std.proofs.Common.{leb-true, ltb-true, lt-ltb}
 use Rattle.std.proofs.Math.Path.{refl}
 use mathlib.Core.List.{List, [], ◌∷◌}
 use Rattle.std.proofs.lemmas.Bool.{eqb-false}
@@ -13,7 +14,8 @@ use Rattle.expr.specs.TokenLaws.{Holds}
 use Rattle.expr.proofs.ExprLaws.{parse-accepted, parse-more}
 use Rattle.expr.specs.Expr.{Ok}
 use Rattle.file.specs.Outcome.{Assume, Assert}
-use Rattle.file.specs.File.{Head, input_room, header_version, header_size, header_inputs, header_count, AtRecord, Body, Good, Bad, field, frame}
+use Rattle.file.specs.File.{Head, input_room, header_version, header_size, header_inputs, header_count, AtRecord, Body, Good, Bad, field}
+use Rattle.file.specs.File.{frame}
 use Rattle.file.specs.File.{Read}
 use Rattle.file.specs.File.{record_of, Accepted, Refused}
 use Rattle.file.specs.Shown.{offsets_from}

@@ -88,7 +88,8 @@ module _ (top : ℕ) (σ : Seen) (body : List ℕ) (h : 0 < length body) where
 
     pub test-expr : 3 ≤ length body → wrong ≡ expr_fault (length body) (parse Trace σ.readable (drop 3 body))
     test-expr l =
-        ap (fault_of (length body)) (is ∙ field_there 2 rest (test_at σ k) (omega (arith, left)) ∙ ap (test_at σ k place) (drop-drop 2 1 body))
+        ap (fault_of (length body)) (is ∙ field_there 2 rest (test_at σ k) (omega (arith, left))
+        ∙ ap (test_at σ k place) (drop-drop 2 1 body))
         ∙ fault_holding (length body) (Test k place) (parse Trace σ.readable (drop 3 body))
 
   pub unknown : (get_or body 0 0 ≡ 1 → ⊥) → known_test σ.bounds (get_or body 0 0) ≡ false → wrong ≡ fault_at (length body) (AtRecord 5)

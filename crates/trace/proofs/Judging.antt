@@ -85,7 +85,8 @@ start ts cells = record { inside = omega arith; long = refl; same = refl }
 pub end : {ts : List Stmt} {cells₀ cells : List ℕ} {k : ℕ} → Judging ts cells₀ cells k → length ts ≤ k
     → record { reply = 0; offset = 0; verdict = 0; place = 0 } ≡ answer_of (judge ts (env_of cells₀))
 unfolding judge
-end {ts = ts} {cells = cells} {k = k} w h = ap answer_of (sym (ap (λ xs. judge xs (env_of cells)) (drop_of_length-le ts {i = k} h)) ∙ w.same)
+end {ts = ts} {cells = cells} {k = k} w h = ap answer_of (sym (ap (λ xs. judge xs (env_of cells)) (drop_of_length-le ts {i = k} h))
+    ∙ w.same)
 
 module _ (s off : List ℕ) (n : ℕ) (ts : List Stmt) (l : Loaded s ts) (q : n ≡ header_count s)
     (st : (i : ℕ) → i < n → get_or off i 0 ≡ get_or (offsets_in n s) i 0) where
@@ -124,7 +125,8 @@ module _ (s off : List ℕ) (n : ℕ) (ts : List Stmt) (l : Loaded s ts) (q : n 
     pub halts : (v p : ℕ) → m ≡ M.End v p → record { reply = 0; offset = 0; verdict = v; place = p } ≡ answer_of (judge ts (env_of cells₀))
     halts v p e = go (step x (env_of cells)) refl stepped
       where
-        go : (y : Next) → step x (env_of cells) ≡ y → Moved y m cells' → record { reply = 0; offset = 0; verdict = v; place = p } ≡ answer_of
+        go : (y : Next) → step x (env_of cells) ≡ y → Moved y m cells' → record { reply = 0; offset = 0; verdict = v; place = p }
+            ≡ answer_of
             (judge ts (env_of cells₀))
         go (Halt o) g z =
             let a : v ≡ verdict o = (let y = sym e ∙ z in cc) in

@@ -13,7 +13,8 @@ use Rattle.trace.proofs.Held.{Held}
 
 module _ {top : ℕ} {σ : Seen} {s : List ℕ} {at : ℕ} (h : Held top σ s at) (l : ℕ) (marks : List Bool) where
   pub learns_symbol : (y : ℕ) → get_or s (at + 2) 0 ≡ 1 → y ≡ number_of 2 (drop (at + 5) s)
-      → (y + 1 ≡ least_after (record_of (stmt top σ) (drop at s)) l) × (set marks y true ≡ marked_by (record_of (stmt top σ) (drop at s)) marks)
+      → (y + 1 ≡ least_after (record_of (stmt top σ) (drop at s)) l)
+      × (set marks y true ≡ marked_by (record_of (stmt top σ) (drop at s)) marks)
   learns_symbol y k q =
       let a = h.is ∙ ap {B = Body Stmt} Good (h.assigns k).0 in
       (add-one y ∙ ap suc q ∙ sym (ap (λ b. least_after b l) a), ap (λ y. set marks y true) q ∙ sym (ap (λ b. marked_by b marks) a))

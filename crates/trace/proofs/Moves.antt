@@ -54,7 +54,8 @@ module _ {s : List ℕ} {at : ℕ} (h : Held symbol_room loose s at) (cells : Li
       → m ≡ end_of (Failed (test_kind (get_or s (at + 2) 0)) p) → Moved (step_body (held (drop at s)) ρ) m cells
   test-fails m p a z q e =
       by m cells (Test (test_kind (get_or s (at + 2) 0)) (number_of 2 (drop (at + 3) s)) (expr_of h.statement)) (h.tests a).0
-      (rw (eq-eqb (value ρ (expr_of h.statement)) 0 (sym is-value ∙ z)) (e ∙ ap (λ p. end_of (Failed (test_kind (get_or s (at + 2) 0)) p)) q))
+      (rw (eq-eqb (value ρ (expr_of h.statement)) 0 (sym is-value ∙ z))
+      (e ∙ ap (λ p. end_of (Failed (test_kind (get_or s (at + 2) 0)) p)) q))
 
   pub test-holds : (get_or s (at + 2) 0 ≡ 1 → ⊥) → (w ≡ 0 → ⊥) → Moved (step_body (held (drop at s)) ρ) M.Go cells
   test-holds a z =

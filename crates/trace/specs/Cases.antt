@@ -135,7 +135,8 @@ unfolding judge_answer read_trace is_trace trace_version old_version tells_bound
 old = (refl, refl, refl, refl)
 
 -- kind 4 is refused under 129, at the record; and no other version is known
-bounds-kind : (judge_answer (small_under0 0x81 0x04) (1 ∷ []) ≡ refusal 5 80) × (judge_answer (small_under0 0x82 0x05) (1 ∷ []) ≡ refusal 5 80)
+bounds-kind : (judge_answer (small_under0 0x81 0x04) (1 ∷ []) ≡ refusal 5 80)
+    × (judge_answer (small_under0 0x82 0x05) (1 ∷ []) ≡ refusal 5 80)
     × (judge_answer (small_under0 0x80 0x02) (1 ∷ []) ≡ refusal 2 0) × (judge_answer (small_under0 0x83 0x04) (1 ∷ []) ≡ refusal 2 0)
 unfolding judge_answer read_trace is_trace trace_version old_version tells_bound read_file header_reply head_size header_inputs header_count
     inputs_limit input_room records record_of frame stmt parse_from read_token operator fits judge value unary binary
@@ -166,7 +167,8 @@ example =
     ∷ 0x00 ∷ 0x0C ∷ 0x03 ∷ 0x00 ∷ 0x01
     ∷ 0x03 ∷ 0x00 ∷ 0x01 ∷ 0x01 ∷ 0x00 ∷ 0x00 ∷ 0x00 ∷ 0x0A ∷ 0x2B ∷ []
 
-pub m12 : (judge_answer example (5 ∷ []) ≡ ended) × (judge_answer example (10 ∷ []) ≡ unsafe_at 1) × (judge_answer example [] ≡ refusal 11 0)
+pub m12 : (judge_answer example (5 ∷ []) ≡ ended) × (judge_answer example (10 ∷ []) ≡ unsafe_at 1)
+    × (judge_answer example [] ≡ refusal 11 0)
 unfolding judge_answer read_trace is_trace trace_version old_version tells_bound read_file header_reply head_size header_inputs header_count
     inputs_limit input_room records record_of frame stmt parse_from read_token operator fits judge value unary binary
 m12 = (refl, refl, refl)

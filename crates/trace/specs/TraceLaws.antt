@@ -1,6 +1,8 @@
 -- The laws of reading a trace: a record by its kind; what is read is well formed; where each statement stands.
-use Rattle.std.specs.Prelude.{ℕ, zero, suc, ◌+◌, ◌≤◌, ◌<◌, ◌≡◌, Bool, true, false, cond, ◌&&◌, ◌||◌, length, take, drop, get_or, eqb, leb, ltb}
-use Rattle.std.proofs.Common.{arith, sym, ap, ◌∙◌, subst, length-drop, length-take-le, drop-drop, eqb-true, eq-eqb, ne_eqb, le-leb, leb-true, ltb-true, lt-ltb}
+use Rattle.std.specs.Prelude.{ℕ, zero, suc, ◌+◌, ◌≤◌, ◌<◌, ◌≡◌, Bool, true, false, cond, ◌&&◌, ◌||◌, length, take, drop, get_or, eqb, leb}
+use Rattle.std.specs.Prelude.{ltb}
+use Rattle.std.proofs.Common.{arith, sym, ap, ◌∙◌, subst, length-drop, length-take-le, drop-drop, eqb-true, eq-eqb, ne_eqb, le-leb}
+use Rattle.std.proofs.Common.{leb-true, ltb-true, lt-ltb}
 use Rattle.std.proofs.Math.Path.{refl}
 use mathlib.Core.List.{List, [], ◌∷◌}
 use Rattle.std.proofs.lemmas.Bool.{eqb-false}

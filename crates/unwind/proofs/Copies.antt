@@ -67,16 +67,6 @@ pub record InCopy (is : List Instr) (n K r : ℕ) (names₀ : List ℕ) (f₀ : 
       (bytes_at (newest_at names₀ f₀) (copy_from n K r 0 is))
   pub newest : after (newest_at names g) (copy_from n K r i (drop i is)) ≡ after (newest_at names₀ f₀) (copy_from n K r 0 is)
 
-pub copy_start : (is : List Instr) (n K r : ℕ) (names : List ℕ) (f : Front) (out : List ℕ) → InCopy is n K r names f out names out 0 f
-copy_start is n K r names f out = record {
-  inside = omega arith;
-  wide = refl;
-  fresh = omega arith;
-  wrote = ahead_start _ _ _;
-  newest =
-      refl;
-}
-
 module _ {is : List Instr} {n K r : ℕ} {names₀ : List ℕ} {f₀ : Front} {out₀ names out : List ℕ} {i : ℕ} {g : Front}
     (v : InCopy is n K r names₀ f₀ out₀ names out i g) where
   abbrev c : Newest
@@ -169,7 +159,8 @@ module _ (s off : List ℕ) (n : ℕ) (o : All Byte s) (ready : Ready s off n) {
       subst (λ p. g.to + length (bytes_at (newest_at names g) (p ∷ [])) ≤ length out) (sym place_here)
       (copy_room v at_hand.instruction at_hand.after at_hand.is-here k)
 
-  pub place-on : (out' names' : List ℕ) (g' : Front) → length names' ≡ length names → Written (newest_at names g) (place_of n K r i rec ∷ [])
+  pub place-on : (out' names' : List ℕ) (g' : Front) → length names' ≡ length names
+      → Written (newest_at names g) (place_of n K r i rec ∷ [])
       out g.to out' names' g'
       → InCopy (listed (read_table s)) n K r names₀ f₀ out₀ names' out' (i + 1) g'
   place-on out' names' g' k w =

@@ -9,12 +9,11 @@ use lib.ListN.{length, drop, get_or, length-append}
 use Rattle.expr.specs.declared.File.TheVariants.{Table, Trace}
 use Rattle.expr.specs.declared.token.Read.{Read}
 use Rattle.expr.specs.declared.token.Read.TheVariants as R
-use Rattle.expr.specs.Token.{Token, Const, Symbol, Un, Bin, Ite, code, token_bytes, expr_bytes, read_token}
-use Rattle.expr.specs.TokenLaws.{IsOperator}
+use Rattle.expr.specs.Token.{Token, Const, Symbol, Un, Bin, Ite, token_bytes, expr_bytes, read_token}
 use Rattle.expr.specs.Expr.{below, parse}
-use Rattle.expr.specs.Eval.{rename_token, rename}
+use Rattle.expr.specs.Eval.{rename}
 use Rattle.expr.specs.Shown.{shown_token, read_size, is_whole, tokens_of, size_of}
-use Rattle.expr.proofs.Reading.{shown-constant, shown-symbol, shown-operator, read-size}
+use Rattle.expr.proofs.Reading.{shown-symbol, read-size}
 use Rattle.expr.proofs.Rests.{Rest, tokens, rest-start, Turned, turn, rest_end}
 use Rattle.file.specs.File.{input_room}
 use Rattle.write.specs.Splice.{Wrote}
@@ -36,27 +35,8 @@ current-at names s h = get_or-inside names s h 0 s
 
 -- its bytes in the trace, by what is read of it
 module _ (f : ℕ → ℕ) (o : Option Token) {t : Read} (q : t ≡ shown_token o) where
-  pub constant-bytes : {w : ℕ} → t ≡ R.Constant w → renamed_bytes f o ≡ token_bytes Trace (Const w)
-  constant-bytes {w} p = ap (renamed_bytes f) (shown-constant o w (sym q ∙ p))
-
   pub symbol-bytes : {s : ℕ} → t ≡ R.Symbol s → renamed_bytes f o ≡ token_bytes Trace (Symbol (f s))
   symbol-bytes {s} p = ap (renamed_bytes f) (shown-symbol o s (sym q ∙ p))
-
-  pub operator-bytes : {b : ℕ} → t ≡ R.Operator b → renamed_bytes f o ≡ b ∷ []
-  operator-bytes {b} p =
-      let k = shown-operator o b (sym q ∙ p) in
-      ap (renamed_bytes f) k.is ∙ go k.token k.operates ∙ ap {B = List ℕ} (λ b. b ∷ []) (sym k.coded)
-    where
-      go : (t : Token) → IsOperator t → token_bytes Trace (rename_token f t) ≡ code Table t ∷ []
-      go (Const n) o = absurd o
-      go (Symbol s) o = absurd o
-      go (Un o) k = refl
-      go (Bin o) k = refl
-      go Ite k = refl
-
--- there is room for it
-pub token-room : {bs cs : List ℕ} → bs ≡ cs → (at m : ℕ) → at + length bs ≤ m → at + length cs ≤ m
-token-room q at m h = omega (arith, ap length q)
 
 -- in a trace, as many as the file's kind says, and at most twice as many as in the table
 renamed_size : (f : ℕ → ℕ) (o : Option Token) → length (renamed_bytes f o) ≡ size_of Trace o
@@ -132,7 +112,8 @@ module _ {e names out₀ : List ℕ} {at : ℕ} {out : List ℕ} {i to : ℕ} (v
           };
         }
 
-  pub put_all : length e ≤ i → Wrote out₀ at (expr_bytes Trace (rename (current_of names) (tokens_of (parse Table (below (length names)) e))))
+  pub put_all : length e ≤ i → Wrote out₀ at (expr_bytes Trace
+      (rename (current_of names) (tokens_of (parse Table (below (length names)) e))))
       out to
   put_all h = ahead_end v.wrote (ap (λ ts. expr_bytes Trace (rename (current_of names) ts)) (rest_end v.rest h))
 

@@ -235,7 +235,8 @@ module _ (S : ℕ) (is : List Instr) (K f : ℕ) (follows : Follows is K f) wher
     jump_follows (suc l) t e ρ q h o true false p z = rw (p, lt-ltb r K (omega arith), le-leb w j active, z) (back_follows l t ρ q h)
 
     step_follows : (x : Instr) (ρ : Env) → InstrOk S n x
-        → act j (action_in n K r i x) w ρ (gated_run (on_from is K c r (suc i) xs)) ≡ (onward (step n K i r x ρ) r (run_from is K f)).outcome
+        → act j (action_in n K r i x) w ρ (gated_run (on_from is K c r (suc i) xs))
+        ≡ (onward (step n K i r x ρ) r (run_from is K f)).outcome
     step_follows (Assign s e) ρ o = rw (le-leb w j active) (next_follows (update ρ s (value ρ e)))
     step_follows (Test k e) ρ o = rw (le-leb w j active) (go (truthy (value ρ e)))
       where

@@ -2,7 +2,6 @@
 -- twice: the sum begins with it.
 use Prim.Native.Nat.{ℕ, suc, ◌+◌, ◌*◌, ◌≤◌, ◌<◌}
 use native.Mathlib.Omega.{arith}
-use native.Mathlib.Nat.{mul-le-mul_left}
 use native.Mathlib.Numerals.{add-one}
 use mathlib.Core.Path.{◌≡◌, refl, sym, ap, ap₂, ◌∙◌}
 use mathlib.Core.Bool.{Bool, true, false, cond, ◌&&◌}
@@ -108,9 +107,6 @@ pub record Summing (last : Bool) (is : List Instr) (i sum : ℕ) : Type 0 where
   pub whole : sum + copy_size last i (drop i is) ≡ copy_size last 0 is + 25
   pub little : sum ≤ 25 + i * 131200
 
-pub summing_start : (last : Bool) (is : List Instr) → Summing last is 0 25
-summing_start last is = record { inside = omega arith; whole = omega arith; little = omega arith }
-
 module _ {last : Bool} {is : List Instr} {i sum : ℕ} (v : Summing last is i sum) where
   sum-on : (x : Instr) (xs : List Instr) → drop i is ≡ x ∷ xs → (size : ℕ) → size ≡ instr_size last i x → size ≤ 131200
       → Summing last is (i + 1) (sum + size)
@@ -153,6 +149,3 @@ module _ (s off : List ℕ) (n : ℕ) (o : All Byte s) (r : Ready s off n) where
       (summed v (omega (arith, counted s off n o r)), omega (arith, v.little, v.inside, counted s off n o r, few s off n o r))
 
 -- ---- a trace
-
-pub copies-little : (K size : ℕ) → K ≤ 255 → size ≤ 134348825 → K * size ≤ 34258950375
-copies-little K size h k = omega (arith, mul-le-mul_left K k)

@@ -1,7 +1,8 @@
 -- The unwound trace: its statements in parts, their number, and that they are a well-formed trace, which is accepted when read.
 -- The walk over the places keeps one invariant, `Known`: the newest symbols may be read, and are older than the next new one. A place
 -- and its goals are within the end, an instruction's expression holds at most 16 words, and the guard puts one word below it.
-use Rattle.std.specs.Prelude.{ℕ, zero, suc, ◌+◌, ◌-◌, ◌*◌, ◌≤◌, ◌<◌, ◌≡◌, refl, Bool, true, false, cond, ◌||◌, List, [], ◌∷◌, ◌++◌, length, eqb, leb, ltb}
+use Rattle.std.specs.Prelude.{ℕ, zero, suc, ◌+◌, ◌-◌, ◌*◌, ◌≤◌, ◌<◌, ◌≡◌, refl, Bool, true, false, cond, ◌||◌, List, [], ◌∷◌, ◌++◌, length}
+use Rattle.std.specs.Prelude.{eqb, leb, ltb}
 use Rattle.std.proofs.Common.{arith, mul-le-mul_right, ap, ◌∙◌, length-append, eq-eqb, lt-ltb, ltb-true}
 use Rattle.expr.specs.declared.File.TheVariants.{Table, Trace}
 use Rattle.expr.specs.Lists.{All, or_left, or_right, all_append}

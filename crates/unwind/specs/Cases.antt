@@ -23,14 +23,16 @@ written bytes = record { reply = 0; offset = 0; bytes = bytes }
 pub m5 : (trace_answer small_rule 0 156 ≡ written small_trace0) × (length small_trace0 ≡ 156)
     × (length (unwind Bound 1 (listed (read_table small_rule)) 0) ≡ 6)
     × (trace_answer small_rule 1 302 ≡ written small_trace1) × (length small_trace1 ≡ 302)
-unfolding trace_answer trace_version read_table is_table read_file header_reply head_size header_inputs header_count inputs_limit input_room records
+unfolding trace_answer trace_version read_table is_table read_file header_reply head_size header_inputs header_count inputs_limit input_room
+    records
     record_of frame instr parse_from read_token operator fits unwind places encode header
 m5 = (refl, refl, refl, refl, refl)
 
 -- a room that is one byte short is 10; K = 255 is accepted, 256 is 8, and 8 comes before 10
 rooms : (trace_answer small_rule 0 155 ≡ refusal 10 0) × (trace_answer small_rule 0 157 ≡ written small_trace0)
     × (length (trace_answer small_rule 255 65535).bytes ≡ 37386) × (trace_answer small_rule 256 0 ≡ refusal 8 0)
-unfolding trace_answer trace_version read_table is_table read_file header_reply head_size header_inputs header_count inputs_limit input_room records
+unfolding trace_answer trace_version read_table is_table read_file header_reply head_size header_inputs header_count inputs_limit input_room
+    records
     record_of frame instr parse_from read_token operator fits unwind places encode header
 rooms = (refl, refl, refl, refl)
 
@@ -40,7 +42,8 @@ pub m11 : (trace_answer (0x01 ∷ 0x00 ∷ 0x06 ∷ 0x00 ∷ 0x00 ∷ 0x00 ∷ [
     ∷ 0x00 ∷ 0x0A ∷ 0x01 ∷ 0xFF ∷ 0xFF ∷ 0x00 ∷ 0x00 ∷ 0x01 ∷ 0x00 ∷ 0x00 ∷ 0x00 ∷ 0x00
     ∷ 0x00 ∷ 0x17 ∷ 0x01 ∷ 0x00 ∷ 0x00 ∷ 0x00 ∷ 0x01
     ∷ 0x03 ∷ 0x00 ∷ 0x00 ∷ 0x01 ∷ 0x00 ∷ 0x00 ∷ 0x00 ∷ 0x00 ∷ 0x2D ∷ 0x01 ∷ 0x00 ∷ 0x00 ∷ 0x00 ∷ 0x01 ∷ 0x03 ∷ 0x00 ∷ 0x00 ∷ 0x30 ∷ []))
-unfolding trace_answer trace_version read_table is_table read_file header_reply head_size header_inputs header_count inputs_limit input_room records
+unfolding trace_answer trace_version read_table is_table read_file header_reply head_size header_inputs header_count inputs_limit input_room
+    records
     unwind places encode header
 m11 = refl
 
@@ -215,7 +218,8 @@ steps_on_trace =
 
 byte_for_byte : (trace_answer leaves 1 224 ≡ written leaves_trace) × (trace_answer loops 1 128 ≡ written loops_trace)
     × (trace_answer renames 1 286 ≡ written renames_trace) × (trace_answer steps_on 1 178 ≡ written steps_on_trace)
-unfolding trace_answer trace_version read_table is_table read_file header_reply head_size header_inputs header_count inputs_limit input_room records
+unfolding trace_answer trace_version read_table is_table read_file header_reply head_size header_inputs header_count inputs_limit input_room
+    records
     record_of frame instr parse_from read_token operator fits unwind places encode header
 byte_for_byte = (refl, refl, refl, refl)
 
@@ -234,7 +238,8 @@ limits : (length asserts ≡ 5126)
     × (length (unwind Bound 1 (listed (read_table asserts)) 2) ≡ 3076)
     × (length (encode_trace (trace_head 1) (unwind Bound 1 (listed (read_table asserts)) 2)) ≡ 70749)
     × (trace_answer asserts 2 65535 ≡ refusal 9 0)
-unfolding trace_answer trace_version read_table is_table read_file header_reply head_size header_inputs header_count inputs_limit input_room records
+unfolding trace_answer trace_version read_table is_table read_file header_reply head_size header_inputs header_count inputs_limit input_room
+    records
     record_of frame instr parse_from read_token operator fits unwind places encode header
 limits = (refl, refl, refl, refl, refl, refl)
 
@@ -245,6 +250,7 @@ zeros high low c = 0x01 ∷ 0xFF ∷ low ∷ 0x01 ∷ 0x00 ∷ 0x01 ∷ 0xFF ∷
 -- a trace of 65,535 bytes is written; one of 65,536 is 9
 longest : (length (trace_answer (zeros 0xC0 0xC8 65469) 0 65535).bytes ≡ 65535)
     × (trace_answer (zeros 0xC1 0xC9 65470) 0 65536 ≡ refusal 9 0)
-unfolding trace_answer trace_version read_table is_table read_file header_reply head_size header_inputs header_count inputs_limit input_room records
+unfolding trace_answer trace_version read_table is_table read_file header_reply head_size header_inputs header_count inputs_limit input_room
+    records
     record_of frame instr parse_from read_token operator fits unwind places encode header
 longest = (refl, refl)

@@ -10,7 +10,7 @@ use lib.ListN.{length, set, length-append}
 use lib.Dec.{eqb, ltb}
 use borrow.Author.Tests.{ltb-true, ltb-false, eq-eqb, ne_eqb}
 use Rattle.write.specs.Splice.{splice, Wrote}
-use Rattle.write.specs.SpliceLaws.{splice_nil, length-splice, splice-behind}
+use Rattle.write.specs.SpliceLaws.{splice_nil, splice-behind}
 use Rattle.write.specs.Decimal.{decimal_up_to, decimal}
 use Rattle.write.specs.Shown.{digit_count_up_to, digit_count}
 
@@ -86,7 +86,8 @@ all_digits zero n = refl
 all_digits (suc k) n = go (ltb n 10) refl (all_digits k (n / 10))
   where
     go : (x : Bool) → ltb n 10 ≡ x → decimal_up_to k (n / 10) ≡ last_digits (digit_count_up_to k (n / 10)) (n / 10)
-        → cond x ((48 + n) ∷ []) (decimal_up_to k (n / 10) ++ (48 + n % 10) ∷ []) ≡ last_digits (cond x 1 (suc (digit_count_up_to k (n / 10)))) n
+        → cond x ((48 + n) ∷ []) (decimal_up_to k (n / 10) ++ (48 + n % 10) ∷ [])
+        ≡ last_digits (cond x 1 (suc (digit_count_up_to k (n / 10)))) n
     go true e q = let h = ltb-true n 10 e in ap {B = List ℕ} (λ d. (48 + d) ∷ []) (let m : n ≡ n % 10 = omega arith in m)
     go false e q = ap (λ ds. ds ++ (48 + n % 10) ∷ []) q
 
@@ -99,13 +100,7 @@ pub record Storing (v : ℕ) (out₀ : List ℕ) (at k : ℕ) (out : List ℕ) (
   pub inside : i ≤ k
   pub buffer : splice at (last_digits i rest) out ≡ splice at (last_digits k v) out₀
 
-pub storing_start : (v : ℕ) (out : List ℕ) (at k : ℕ) → Storing v out at k out k v
-storing_start v out at k = record { inside = omega arith; buffer = refl }
-
 module _ {v : ℕ} {out₀ : List ℕ} {at k : ℕ} {out : List ℕ} {i rest : ℕ} (s : Storing v out₀ at k out i rest) where
-  pub storing_length : length out ≡ length out₀
-  storing_length = sym (length-splice at (last_digits i rest) out) ∙ ap length s.buffer ∙ length-splice at (last_digits k v) out₀
-
   pub store_on : (j : ℕ) → i ≡ suc j → Storing v out₀ at k (set out (at + j) (48 + rest % 10)) j (rest / 10)
   unfolding splice
   store_on j e =

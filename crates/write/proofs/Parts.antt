@@ -5,10 +5,10 @@ use native.Mathlib.Nat.{add-zero}
 use native.Mathlib.Numerals.{add-one}
 use mathlib.Core.Path.{refl, sym, ap, ◌∙◌}
 use mathlib.Core.List.{List, [], ◌∷◌}
-use lib.ListN.{length, drop, get_or, set, drop_of_length-le, length-drop}
+use lib.ListN.{length, drop, get_or, set, drop_of_length-le}
 use lib.Seq.{drop-cons}
 use Rattle.write.specs.Splice.{splice, Wrote}
-use Rattle.write.specs.SpliceLaws.{Ahead, ahead_start, ahead_step, ahead_end, ahead_room}
+use Rattle.write.specs.SpliceLaws.{Ahead, ahead_start, ahead_step, ahead_end}
 
 pub record Copying (part out₀ : List ℕ) (at : ℕ) (out : List ℕ) (i : ℕ) : Type 0 where
   pub inside : i ≤ length part
@@ -19,9 +19,6 @@ copying_start part out at = record { inside = omega arith; wrote = rw add-zero (
 
 module _ {part out₀ : List ℕ} {at : ℕ} {out : List ℕ} {i : ℕ} (v : Copying part out₀ at out i) where
   module _ (h : i < length part) where
-    pub copying_room : at + length part ≤ length out₀ → at + i < length out
-    copying_room r = omega (arith, ahead_room v.wrote r, length-drop i part)
-
     stored : Wrote out (at + i) (get_or part i 0 ∷ []) (set out (at + i) (get_or part i 0)) (at + (i + 1))
     unfolding splice
     stored = record { buffer = refl; next = omega arith }

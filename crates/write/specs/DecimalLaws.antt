@@ -7,7 +7,8 @@ decimal-up_to : (k n : ℕ) → length (decimal_up_to k n) ≤ k
 decimal-up_to zero n = omega arith
 decimal-up_to (suc k) n = go (ltb n 10) (decimal-up_to k (n / 10))
   where
-    go : (x : Bool) → length (decimal_up_to k (n / 10)) ≤ k → length (cond x ((48 + n) ∷ []) (decimal_up_to k (n / 10) ++ (48 + n % 10) ∷ []))
+    go : (x : Bool) → length (decimal_up_to k (n / 10)) ≤ k → length
+        (cond x ((48 + n) ∷ []) (decimal_up_to k (n / 10) ++ (48 + n % 10) ∷ []))
         ≤ suc k
     go true l = omega arith
     go false l = omega (arith, length-append (decimal_up_to k (n / 10)) ((48 + n % 10) ∷ []))
@@ -23,7 +24,8 @@ pub two_digits : (n : ℕ) → n < 100 → length (decimal n) ≤ 2
 unfolding decimal
 two_digits n h = go (ltb n 10) (one_digit 8 (n / 10) (omega arith))
   where
-    go : (x : Bool) → length (decimal_up_to 9 (n / 10)) ≤ 1 → length (cond x ((48 + n) ∷ []) (decimal_up_to 9 (n / 10) ++ (48 + n % 10) ∷ []))
+    go : (x : Bool) → length (decimal_up_to 9 (n / 10)) ≤ 1 → length
+        (cond x ((48 + n) ∷ []) (decimal_up_to 9 (n / 10) ++ (48 + n % 10) ∷ []))
         ≤ 2
     go true l = omega arith
     go false l = omega (arith, length-append (decimal_up_to 9 (n / 10)) ((48 + n % 10) ∷ []))

@@ -1,14 +1,9 @@
 use native.Mathlib.Omega.{arith}
-use mathlib.Core.Path.{◌≡◌, ap, ◌∙◌}
-use lib.ListN.{length, take, get_or, set}
-use lib.Seq.{length-sets}
+use mathlib.Core.Path.{ap, ◌∙◌}
+use lib.ListN.{get_or, set}
 use Rattle.file.proofs.FileLaws.{copy_next}
 use Rattle.file.proofs.copy_words.Goals as goal
 use Rattle.file.proofs.copy_words.Goals.{At-loop-s}
-
--- stores keep the length
-long : (c : At-loop-s) → length c.loop-s.cells ≡ length c.args.cells.now
-long c = ap length c.loop-s.invariant.1 ∙ length-sets c.args.cells.now 0 (take c.loop-s.s c.args.words.now)
 
 pub loop-s-preserved : goal.loop-s-preserved
 loop-s-preserved c =

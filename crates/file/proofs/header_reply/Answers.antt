@@ -41,31 +41,34 @@ module _ (c : Else-total_of-s) where
 
 pub returns-then-inputs_limit-inputs_of : goal.returns-then-inputs_limit-inputs_of
 unfolding header_reply
-returns-then-inputs_limit-inputs_of c = simp (
-  le-leb _ _ (long (goal.at.returns-then-inputs_limit-inputs_of c).Else-total_of-s),
-  known (goal.at.returns-then-inputs_limit-inputs_of c).Else-total_of-s,
-  eq-eqb _ _ (total (goal.at.returns-then-inputs_limit-inputs_of c).Else-total_of-s),
-  lt-leb _ _ (rw (c.inputs_of.ensures, c.inputs_limit.ensures) at c.if-inputs_limit-inputs_of.true),
-)
+returns-then-inputs_limit-inputs_of c =
+    let place = (goal.at.returns-then-inputs_limit-inputs_of c).Else-total_of-s in simp (
+      le-leb _ _ (long place),
+      known place,
+      eq-eqb _ _ (total place),
+      lt-leb _ _ (rw (c.inputs_of.ensures, c.inputs_limit.ensures) at c.if-inputs_limit-inputs_of.true),
+    )
 
 pub returns-then-limit-count_of : goal.returns-then-limit-count_of
 unfolding header_reply
-returns-then-limit-count_of c = simp (
-  le-leb _ _ (long (goal.at.returns-then-limit-count_of c).Else-total_of-s),
-  known (goal.at.returns-then-limit-count_of c).Else-total_of-s,
-  eq-eqb _ _ (total (goal.at.returns-then-limit-count_of c).Else-total_of-s),
-  le-leb _ _ (rw (c.inputs_of.ensures, c.inputs_limit.ensures)
-      at c.if-inputs_limit-inputs_of.false),
-  lt-leb _ _ (rw c.count_of.ensures at c.if-limit-count_of.true),
-)
+returns-then-limit-count_of c =
+    let place = (goal.at.returns-then-limit-count_of c).Else-total_of-s in simp (
+      le-leb _ _ (long place),
+      known place,
+      eq-eqb _ _ (total place),
+      le-leb _ _ (rw (c.inputs_of.ensures, c.inputs_limit.ensures)
+          at c.if-inputs_limit-inputs_of.false),
+      lt-leb _ _ (rw c.count_of.ensures at c.if-limit-count_of.true),
+    )
 
 pub returns : goal.returns
 unfolding header_reply
-returns c = simp (
-  le-leb _ _ (long (goal.at.returns c).Else-total_of-s),
-  known (goal.at.returns c).Else-total_of-s,
-  eq-eqb _ _ (total (goal.at.returns c).Else-total_of-s),
-  le-leb _ _ (rw (c.inputs_of.ensures, c.inputs_limit.ensures)
-      at c.if-inputs_limit-inputs_of.false),
-  le-leb _ _ (rw c.count_of.ensures at c.if-limit-count_of.false),
-)
+returns c =
+    let place = (goal.at.returns c).Else-total_of-s in simp (
+      le-leb _ _ (long place),
+      known place,
+      eq-eqb _ _ (total place),
+      le-leb _ _ (rw (c.inputs_of.ensures, c.inputs_limit.ensures)
+          at c.if-inputs_limit-inputs_of.false),
+      le-leb _ _ (rw c.count_of.ensures at c.if-limit-count_of.false),
+    )

@@ -15,7 +15,8 @@ inputs_of-requires c =
 
 pub put_inputs-b-requires : goal.put_inputs-b-requires
 put_inputs-b-requires c =
-    (omega (arith, c.inputs_of.ensures, (here (goal.at.put_inputs-b-requires c).Start).inputs, (here (goal.at.put_inputs-b-requires c).Start).few-inputs), omega (arith, c.fit_part-a.ensures.next))
+    let entry = (goal.at.put_inputs-b-requires c).Start in
+    (omega (arith, c.inputs_of.ensures, (here entry).inputs, (here entry).few-inputs), omega (arith, c.fit_part-a.ensures.next))
 
 pub put_pieces-c-requires : goal.put_pieces-c-requires
 put_pieces-c-requires c =

@@ -14,6 +14,7 @@ count_of-n-requires c =
 
 pub returns : goal.returns
 returns c = (
-  wrote_as (script_parts (here (goal.at.returns c).Start)) ((c.put_definitions-a.ensures.0 then c.put_claim-b.ensures.0) then c.fit_part.ensures),
+  wrote_as (script_parts (here (goal.at.returns c).Start)) ((c.put_definitions-a.ensures.0 then c.put_claim-b.ensures.0)
+      then c.fit_part.ensures),
   omega (arith, c.put_definitions-a.ensures.1, c.put_claim-b.ensures.1, c.fit_part.ensures.next),
 )

@@ -34,7 +34,8 @@ measure-requires c = ap is_accepted (accepted (goal.at.measure-requires c).Else-
 
 pub returns-then-out-measure : goal.returns-then-out-measure
 returns-then-out-measure c =
-    no_room _ _ _ _ (accepted (goal.at.returns-then-out-measure c).Else-reply-ne0) (omega (arith, c.measure.ensures, c.if-out-measure.true)) _ c.refused-then-out-measure.ensures
+    no_room _ _ _ _ (accepted (goal.at.returns-then-out-measure c).Else-reply-ne0)
+    (omega (arith, c.measure.ensures, c.if-out-measure.true)) _ c.refused-then-out-measure.ensures
 
 pub put_script-length-requires : goal.put_script-length-requires
 put_script-length-requires c =
@@ -42,4 +43,5 @@ put_script-length-requires c =
 
 pub returns : goal.returns
 returns c =
-    written _ _ _ _ (accepted (goal.at.returns c).Else-reply-ne0) (omega (arith, c.measure.ensures, c.if-out-measure.false)) c.put_script-length.ensures.0
+    written _ _ _ _ (accepted (goal.at.returns c).Else-reply-ne0)
+    (omega (arith, c.measure.ensures, c.if-out-measure.false)) c.put_script-length.ensures.0

@@ -66,22 +66,25 @@ returns-then-input-eq0 c =
 
 pub returns-then-reply-ne0 : goal.returns-then-reply-ne0
 returns-then-reply-ne0 c =
-    let e : c.write_trace-t.result ≡ numbers (due (goal.at.returns-then-reply-ne0 c).After-write_trace-t) = answer-is (goal.at.returns-then-reply-ne0 c).After-write_trace-t in
+    let place = (goal.at.returns-then-reply-ne0 c).After-write_trace-t in
+    let e : c.write_trace-t.result ≡ numbers (due place) = answer-is place in
     shown
     (fitted_as (ap (λ a. refusal_text a.reply a.offset) e
-    ∙ sym (printed-refusal (s (goal.at.returns-then-reply-ne0 c).After-write_trace-t) (some_byte (goal.at.returns-then-reply-ne0 c).After-write_trace-t) (λ z. c.if-reply-ne0.true (ap (λ a. a.reply) e ∙ z))))
+    ∙ sym (printed-refusal (s place) (some_byte place) (λ z. c.if-reply-ne0.true (ap (λ a. a.reply) e ∙ z))))
     c.show_refusal-then-reply-ne0.ensures)
 
 pub show_sliced-requires : goal.show_sliced-requires
 show_sliced-requires c =
-    let f = in_buffer (goal.at.show_sliced-requires c).After-write_trace-t in
-    let a = accepted (goal.at.show_sliced-requires c).After-write_trace-t c.if-reply-ne0.false in
+    let place = (goal.at.show_sliced-requires c).After-write_trace-t in
+    let f = in_buffer place in
+    let a = accepted place c.if-reply-ne0.false in
     (ap (λ t. is_accepted (read_trace t)) f.those ∙ a.0, omega (arith, ap length f.those, a.1))
 
 pub returns : goal.returns
 returns c =
+    let place = (goal.at.returns c).After-write_trace-t in
     shown
-    (fitted_as (ap (λ t. sliced_text (slice_answer t 65535)) (in_buffer (goal.at.returns c).After-write_trace-t).those
-    ∙ sym (printed-slice (s (goal.at.returns c).After-write_trace-t) (some_byte (goal.at.returns c).After-write_trace-t) (sym (ap (λ a. a.reply) (answer-is (goal.at.returns c).After-write_trace-t))
+    (fitted_as (ap (λ t. sliced_text (slice_answer t 65535)) (in_buffer place).those
+    ∙ sym (printed-slice (s place) (some_byte place) (sym (ap (λ a. a.reply) (answer-is place))
     ∙ c.if-reply-ne0.false)))
     c.show_sliced.ensures)

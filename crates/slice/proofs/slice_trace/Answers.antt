@@ -62,22 +62,32 @@ returns-then-reply-ne0 c =
     c.refused.ensures
 
 pub walk_back-k-requires : goal.walk_back-k-requires
-walk_back-k-requires c = (
-  ready (goal.at.walk_back-k-requires c).Else-reply-ne0,
-  few (goal.at.walk_back-k-requires c).Else-reply-ne0,
-  c.clear-needed.ensures.0,
-  c.clear-needed.ensures.1,
-  same_everywhere 4096 false,
-)
+walk_back-k-requires c =
+    let place = (goal.at.walk_back-k-requires c).Else-reply-ne0 in (
+      ready place,
+      few place,
+      c.clear-needed.ensures.0,
+      c.clear-needed.ensures.1,
+      same_everywhere 4096 false,
+    )
 
 pub overflow_add-total : goal.overflow_add-total
 overflow_add-total c =
-    omega (arith, small (goal.at.overflow_add-total c).After-walk_back-k, c.header_size.ensures, (head (goal.at.overflow_add-total c).Else-reply-ne0).total, (head (goal.at.overflow_add-total c).Else-reply-ne0).long, offsets-fit (goal.at.overflow_add-total c).Else-reply-ne0)
+    let place = (goal.at.overflow_add-total c).Else-reply-ne0 in
+    omega (
+      arith,
+      small (goal.at.overflow_add-total c).After-walk_back-k,
+      c.header_size.ensures,
+      (head place).total,
+      (head place).long,
+      offsets-fit place,
+    )
 
 pub returns-then-out-total : goal.returns-then-out-total
 returns-then-out-total c =
-    no_room (s (goal.at.returns-then-out-total c).Else-reply-ne0) (accepted (goal.at.returns-then-out-total c).Else-reply-ne0) _ _ _ c.walk_back-k.ensures
-    c.header_size.ensures (out (goal.at.returns-then-out-total c).Else-reply-ne0)
+    let place = (goal.at.returns-then-out-total c).Else-reply-ne0 in
+    no_room (s place) (accepted place) _ _ _ c.walk_back-k.ensures
+    c.header_size.ensures (out place)
     c.if-out-total.true _ c.refused-then-out-total.ensures
 
 -- and fits the buffer
@@ -93,14 +103,17 @@ module _ (c : Else-out-total) where
 
 pub put_header_of-to-requires : goal.put_header_of-to-requires
 put_header_of-to-requires c =
-    ((head (a (goal.at.put_header_of-to-requires c).Else-out-total)).long, omega (arith, (front (goal.at.put_header_of-to-requires c).Else-out-total).header_size.ensures, c.if-out-total.false), (head (a (goal.at.put_header_of-to-requires c).Else-out-total)).inputs)
+    let place = (goal.at.put_header_of-to-requires c).Else-out-total in
+    ((head (a place)).long, omega (arith, (front place).header_size.ensures, c.if-out-total.false), (head (a place)).inputs)
 
 pub copy_kept-requires : goal.copy_kept-requires
 copy_kept-requires c =
+    let place = (goal.at.copy_kept-requires c).Else-out-total in
     let put = c.put_header_of-to.ensures in (
-      ready (a (goal.at.copy_kept-requires c).Else-out-total),
-      omega (arith, few (a (goal.at.copy_kept-requires c).Else-out-total), (walked (goal.at.copy_kept-requires c).Else-out-total).walk_back-k.auto.kept),
-      records-room (s (a (goal.at.copy_kept-requires c).Else-out-total)) (accepted (a (goal.at.copy_kept-requires c).Else-out-total)) _ _ _ (walked (goal.at.copy_kept-requires c).Else-out-total).walk_back-k.ensures (front (goal.at.copy_kept-requires c).Else-out-total).header_size.ensures (out (a (goal.at.copy_kept-requires c).Else-out-total))
+      ready (a place),
+      omega (arith, few (a place), (walked place).walk_back-k.auto.kept),
+      records-room (s (a place)) (accepted (a place)) _ _ _ (walked place).walk_back-k.ensures (front place).header_size.ensures
+          (out (a place))
           c.if-out-total.false put.0 put.1,
     )
 
@@ -110,26 +123,31 @@ inputs_of-requires c = (head (a (goal.at.inputs_of-requires c).Else-out-total)).
 pub mask_of-mask-requires : goal.mask_of-mask-requires
 unfolding input_room
 mask_of-mask-requires c =
-    let few : header_inputs (s (a (goal.at.mask_of-mask-requires c).Else-out-total)) ≤ input_room = omega (arith, (head (a (goal.at.mask_of-mask-requires c).Else-out-total)).inputs, inputs-room (header_version (s (a (goal.at.mask_of-mask-requires c).Else-out-total)))) in (
+    let place = (goal.at.mask_of-mask-requires c).Else-out-total in
+    let few : header_inputs (s (a place)) ≤ input_room = omega
+    (arith, (head (a place)).inputs, inputs-room (header_version (s (a place)))) in (
       omega (arith, few, c.inputs_of.ensures),
       omega (
         arith,
         few,
         symbol-room,
         c.inputs_of.ensures,
-        same-room (walked (goal.at.mask_of-mask-requires c).Else-out-total).walk_back-k.new.needed (walked (goal.at.mask_of-mask-requires c).Else-out-total).clear-needed.result
-            (walked (goal.at.mask_of-mask-requires c).Else-out-total).walk_back-k.auto.needed,
-        (walked (goal.at.mask_of-mask-requires c).Else-out-total).clear-needed.ensures.0,
+        same-room (walked place).walk_back-k.new.needed (walked place).clear-needed.result
+            (walked place).walk_back-k.auto.needed,
+        (walked place).clear-needed.ensures.0,
       ),
     )
 
 pub overflow_cast-result : goal.overflow_cast-result
 overflow_cast-result c =
-    omega (arith, small (walked (goal.at.overflow_cast-result c).Else-out-total), (front (goal.at.overflow_cast-result c).Else-out-total).header_size.ensures, offsets-fit (a (goal.at.overflow_cast-result c).Else-out-total))
+    let place = (goal.at.overflow_cast-result c).Else-out-total in
+    omega (arith, small (walked place), (front place).header_size.ensures, offsets-fit (a place))
 
 pub returns : goal.returns
 returns c =
+    let place = (goal.at.returns c).Else-out-total in
     let put = c.put_header_of-to.ensures in
-    slice_written (s (a (goal.at.returns c).Else-out-total)) (accepted (a (goal.at.returns c).Else-out-total)) _ _ _ (walked (goal.at.returns c).Else-out-total).walk_back-k.ensures (front (goal.at.returns c).Else-out-total).header_size.ensures (out (a (goal.at.returns c).Else-out-total)) c.if-out-total.false
+    slice_written (s (a place)) (accepted (a place)) _ _ _ (walked place).walk_back-k.ensures (front place).header_size.ensures
+    (out (a place)) c.if-out-total.false
     put.0 put.1 c.copy_kept.ensures c.inputs_of.ensures _
     c.mask_of-mask.ensures

@@ -58,14 +58,18 @@ module _ (c : Else-reply-ne0) where
   count-is = ready.count ∙ sym (many c.read_table-t.ensures c.if-reply-ne0.false)
 
 pub returns-then-bound-gt255 : goal.returns-then-bound-gt255
-returns-then-bound-gt255 c = record { answer = c.refused-then-bound-gt255.ensures ∙ bound-refused _ _ _ _ _ (accepted (goal.at.returns-then-bound-gt255 c).Else-reply-ne0) c.if-bound-gt255.true }
+returns-then-bound-gt255 c = record {
+  answer = c.refused-then-bound-gt255.ensures
+      ∙ bound-refused _ _ _ _ _ (accepted (goal.at.returns-then-bound-gt255 c).Else-reply-ne0) c.if-bound-gt255.true;
+}
 
 pub inputs_of-requires : goal.inputs_of-requires
 inputs_of-requires c = (head (goal.at.inputs_of-requires c).Else-reply-ne0).long
 
 pub returns-then-words-inputs_of : goal.returns-then-words-inputs_of
 returns-then-words-inputs_of c = record {
-  answer = c.refused-then-words-inputs_of.ensures ∙ valuation_refused _ _ _ _ _ (accepted (goal.at.returns-then-words-inputs_of c).Else-reply-ne0)
+  answer = c.refused-then-words-inputs_of.ensures ∙ valuation_refused _ _ _ _ _
+      (accepted (goal.at.returns-then-words-inputs_of c).Else-reply-ne0)
       c.if-bound-gt255.false (λ e. c.if-words-inputs_of.true (e ∙ sym c.inputs_of.ensures));
 }
 
@@ -83,12 +87,13 @@ copy_words-requires c =
 pub run_from-requires : goal.run_from-requires
 unfolding input_room
 run_from-requires c =
+    let place = (goal.at.run_from-requires c).Else-reply-ne0 in
     let words = c.args.words.now in (
       c.if-bound-gt255.false,
-      ready (goal.at.run_from-requires c).Else-reply-ne0,
+      ready place,
       omega (
         arith,
-        few-inputs (goal.at.run_from-requires c).Else-reply-ne0,
+        few-inputs place,
         ap length c.copy_words.ensures,
         length-sets (replicate input_room 0) 0 words,
         length-replicate {A = ℕ} input_room 0,
@@ -98,15 +103,16 @@ run_from-requires c =
 pub returns : goal.returns
 unfolding input_room
 returns c =
+    let place = (goal.at.returns c).Else-reply-ne0 in
     let words = c.args.words.now in
-    let right : length words ≡ header_inputs (s (goal.at.returns c).Else-reply-ne0) = c.if-words-inputs_of.false
+    let right : length words ≡ header_inputs (s place) = c.if-words-inputs_of.false
     ∙ c.inputs_of.ensures in
     record {
       answer =
           c.run_from.ensures
-          ∙ ran _ _ _ _ _ (accepted (goal.at.returns c).Else-reply-ne0) c.if-bound-gt255.false
-          right _ (count-is (goal.at.returns c).Else-reply-ne0)
+          ∙ ran _ _ _ _ _ (accepted place) c.if-bound-gt255.false
+          right _ (count-is place)
           c.copy_words.new.cells
           (ap env_of c.copy_words.ensures
-          ∙ copy_env input_room words (omega (arith, right, few-inputs (goal.at.returns c).Else-reply-ne0)));
+          ∙ copy_env input_room words (omega (arith, right, few-inputs place)));
     }

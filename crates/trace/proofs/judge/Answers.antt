@@ -53,7 +53,8 @@ inputs_of-requires c = (head (goal.at.inputs_of-requires c).Else-reply-ne0).long
 
 pub returns-then-words-inputs_of : goal.returns-then-words-inputs_of
 returns-then-words-inputs_of c = record {
-  answer = c.refused-then-words-inputs_of.ensures ∙ valuation_refused _ _ _ _ (accepted (goal.at.returns-then-words-inputs_of c).Else-reply-ne0)
+  answer = c.refused-then-words-inputs_of.ensures ∙ valuation_refused _ _ _ _
+      (accepted (goal.at.returns-then-words-inputs_of c).Else-reply-ne0)
       (λ e. c.if-words-inputs_of.true (e ∙ sym c.inputs_of.ensures));
 }
 
@@ -82,14 +83,15 @@ judge_from-requires c =
 pub returns : goal.returns
 unfolding symbol_room
 returns c =
+    let place = (goal.at.returns c).Else-reply-ne0 in
     let words = c.args.words.now in
-    let right : length words ≡ header_inputs (s (goal.at.returns c).Else-reply-ne0) = c.if-words-inputs_of.false
+    let right : length words ≡ header_inputs (s place) = c.if-words-inputs_of.false
     ∙ c.inputs_of.ensures in
     record {
       answer =
           c.judge_from.ensures
-          ∙ judged _ _ _ _ (accepted (goal.at.returns c).Else-reply-ne0) right
+          ∙ judged _ _ _ _ (accepted place) right
           c.copy_words.new.cells
           (ap env_of c.copy_words.ensures
-          ∙ copy_env symbol_room words (omega (arith, right, has_room (goal.at.returns c).Else-reply-ne0)));
+          ∙ copy_env symbol_room words (omega (arith, right, has_room place)));
     }

@@ -26,8 +26,12 @@ pub put_header-a-requires : goal.put_header-a-requires
 unfolding trace_version
 put_header-a-requires c =
     let room : head_size trace_version ≤ length c.args.out.now = omega (arith, c.requires.4, c.requires.5) in
-    let few : c.inputs_of-inputs.result ≤ inputs_limit trace_version = omega
-    (arith, c.inputs_of-inputs.ensures, few-inputs _ _ _ (bytes (goal.at.put_header-a-requires c).After-shared_slice_known-1) c.requires.0, room-written) in
+    let few : c.inputs_of-inputs.result ≤ inputs_limit trace_version = omega (
+      arith,
+      c.inputs_of-inputs.ensures,
+      few-inputs _ _ _ (bytes (goal.at.put_header-a-requires c).After-shared_slice_known-1) c.requires.0,
+      room-written,
+    ) in
     (room, few)
 
 -- the header is written
@@ -39,8 +43,12 @@ module _ (c : After-put_header-a) where
   S = c.inputs_of-inputs.result
 
   few : S ≤ input_room
-  few = omega
-      (arith, c.inputs_of-inputs.ensures, few-inputs _ _ _ (bytes (goal.at.After-put_header-a c).After-shared_slice_known-1) start.requires.0)
+  few = omega (
+    arith,
+    c.inputs_of-inputs.ensures,
+    few-inputs _ _ _ (bytes (goal.at.After-put_header-a c).After-shared_slice_known-1)
+        start.requires.0,
+  )
 
   after-header : c.put_header-a.result ≡ head_size trace_version
   unfolding trace_version
@@ -48,27 +56,29 @@ module _ (c : After-put_header-a) where
 
 pub put_opening-b-requires : goal.put_opening-b-requires
 put_opening-b-requires c =
-    omega (arith, after-header (goal.at.put_opening-b-requires c).After-put_header-a, c.put_header-a.auto.out, (start (goal.at.put_opening-b-requires c).After-put_header-a).requires.4, (start (goal.at.put_opening-b-requires c).After-put_header-a).requires.5)
+    let place = (goal.at.put_opening-b-requires c).After-put_header-a in
+    omega (arith, after-header place, c.put_header-a.auto.out, (start place).requires.4, (start place).requires.5)
 
 pub overflow_add-f : goal.overflow_add-f
 overflow_add-f c = omega (arith, few (goal.at.overflow_add-f c).After-put_header-a, symbols_in_two-bytes)
 
 pub write_copies-requires : goal.write_copies-requires
 write_copies-requires c =
-    let s = start (goal.at.write_copies-requires c).After-put_header-a in
+    let place = (goal.at.write_copies-requires c).After-put_header-a in
+    let s = start place in
     let table = s.args.table.now in
     let n = c.first_names-names.ensures in (
       s.requires.1,
-      omega (arith, few (goal.at.write_copies-requires c).After-put_header-a, symbols_in_two-bytes, s.requires.2, s.requires.3),
+      omega (arith, few place, symbols_in_two-bytes, s.requires.2, s.requires.3),
       s.requires.0,
-      omega (arith, few (goal.at.write_copies-requires c).After-put_header-a, c.inputs_of-inputs.ensures, n.0),
+      omega (arith, few place, c.inputs_of-inputs.ensures, n.0),
       omega (
         arith,
         c.put_opening-b.ensures.next,
         c.put_opening-b.auto.out,
-        after-header (goal.at.write_copies-requires c).After-put_header-a,
+        after-header place,
         c.put_header-a.auto.out,
-        rest-size (S (goal.at.write_copies-requires c).After-put_header-a) (listed (read_table table)) s.args.bound c.first_names-names.result n.1,
+        rest-size (S place) (listed (read_table table)) s.args.bound c.first_names-names.result n.1,
         s.requires.4,
         s.requires.5,
       ),
@@ -77,7 +87,9 @@ write_copies-requires c =
 pub returns : goal.returns
 unfolding trace_version
 returns c =
-    let s = start (goal.at.returns c).After-put_header-a in
-    all-written (S (goal.at.returns c).After-put_header-a) (listed (read_table s.args.table.now)) s.args.bound c.first_names-names.result c.first_names-names.ensures.1
-    s.args.n s.args.total s.args.count (counted _ _ _ (bytes (goal.at.returns c).After-shared_slice_known-1) s.requires.0) s.requires.4 s.requires.2 s.requires.5
+    let place = (goal.at.returns c).After-put_header-a in
+    let s = start place in
+    all-written (S place) (listed (read_table s.args.table.now)) s.args.bound c.first_names-names.result c.first_names-names.ensures.1
+    s.args.n s.args.total s.args.count (counted _ _ _ (bytes (goal.at.returns c).After-shared_slice_known-1) s.requires.0) s.requires.4
+    s.requires.2 s.requires.5
     c.put_header-a.ensures.0 c.put_opening-b.ensures c.write_copies.ensures c.inputs_of-inputs.ensures

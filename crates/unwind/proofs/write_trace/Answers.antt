@@ -59,7 +59,8 @@ returns-then-reply-ne0 c =
     c.refused.ensures
 
 pub returns-then-bound-gt255 : goal.returns-then-bound-gt255
-returns-then-bound-gt255 c = bound_refuses _ _ _ _ _ (accepted (goal.at.returns-then-bound-gt255 c).Else-reply-ne0) c.if-bound-gt255.true c.refused-then-bound-gt255.ensures
+returns-then-bound-gt255 c = bound_refuses _ _ _ _ _ (accepted (goal.at.returns-then-bound-gt255 c).Else-reply-ne0) c.if-bound-gt255.true
+    c.refused-then-bound-gt255.ensures
 
 pub overflow_add-count-2 : goal.overflow_add-count-2
 overflow_add-count-2 c = omega (arith, few (goal.at.overflow_add-count-2 c).Else-reply-ne0)
@@ -73,20 +74,24 @@ overflow_add-count-3 c =
 
 pub returns-then-count-gt4096 : goal.returns-then-count-gt4096
 returns-then-count-gt4096 c =
-    count_refuses _ _ _ _ _ (accepted (goal.at.returns-then-count-gt4096 c).Else-reply-ne0) c.if-bound-gt255.false _ (count-is (goal.at.returns-then-count-gt4096 c).Else-reply-ne0) c.if-count-gt4096.true c.refused-then-count-gt4096.ensures
+    let place = (goal.at.returns-then-count-gt4096 c).Else-reply-ne0 in
+    count_refuses _ _ _ _ _ (accepted place) c.if-bound-gt255.false _
+    (count-is place) c.if-count-gt4096.true c.refused-then-count-gt4096.ensures
 
 pub trace_size-total-requires : goal.trace_size-total-requires
 trace_size-total-requires c = (c.if-bound-gt255.false, ready (goal.at.trace_size-total-requires c).Else-reply-ne0)
 
 pub returns-then-total-gt65535 : goal.returns-then-total-gt65535
 returns-then-total-gt65535 c =
-    size_refuses _ _ _ _ _ (accepted (goal.at.returns-then-total-gt65535 c).Else-reply-ne0) c.if-bound-gt255.false _ (count-is (goal.at.returns-then-total-gt65535 c).Else-reply-ne0)
+    let place = (goal.at.returns-then-total-gt65535 c).Else-reply-ne0 in
+    size_refuses _ _ _ _ _ (accepted place) c.if-bound-gt255.false _ (count-is place)
     c.if-count-gt4096.false _ c.trace_size-total.ensures c.if-total-gt65535.true
     c.refused-then-total-gt65535.ensures
 
 pub returns-then-out-total : goal.returns-then-out-total
 returns-then-out-total c =
-    room_refuses _ _ _ _ _ (accepted (goal.at.returns-then-out-total c).Else-reply-ne0) c.if-bound-gt255.false _ (count-is (goal.at.returns-then-out-total c).Else-reply-ne0)
+    let place = (goal.at.returns-then-out-total c).Else-reply-ne0 in
+    room_refuses _ _ _ _ _ (accepted place) c.if-bound-gt255.false _ (count-is place)
     c.if-count-gt4096.false _ c.trace_size-total.ensures
     c.if-total-gt65535.false c.if-out-total.true c.refused-then-out-total.ensures
 
@@ -102,5 +107,7 @@ write_all-requires c = (
 
 pub returns : goal.returns
 returns c =
-    trace_written _ _ _ _ _ (accepted (goal.at.returns c).Else-reply-ne0) c.if-bound-gt255.false _ (count-is (goal.at.returns c).Else-reply-ne0) c.if-count-gt4096.false _ c.trace_size-total.ensures c.if-total-gt65535.false c.if-out-total.false
+    let place = (goal.at.returns c).Else-reply-ne0 in
+    trace_written _ _ _ _ _ (accepted place) c.if-bound-gt255.false _
+    (count-is place) c.if-count-gt4096.false _ c.trace_size-total.ensures c.if-total-gt65535.false c.if-out-total.false
     c.write_all.ensures

@@ -1,13 +1,8 @@
 -- What is read of the token says what it puts on the stack.
-use Rattle.std.proofs.Common.{◌<◌, length, drop, arith}
-use mathlib.Core.Option.{Option}
-use Rattle.expr.specs.Token.{Token, read_token}
+use Rattle.std.proofs.Common.{◌<◌, length, arith}
 use Rattle.expr.proofs.Steps.{symbol-below}
 use Rattle.expr.proofs.eval.operand_at.Goals as goal
 use Rattle.expr.proofs.eval.operand_at.Goals.{In-Symbol, Start}
-
-abbrev here : Start → Option Token
-here c = read_token c.args.file (drop c.args.at c.args.e.now)
 
 inside : (c : In-Symbol) → c.in-Symbol.s
     < length c.args.vals.now

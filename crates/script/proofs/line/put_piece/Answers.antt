@@ -13,7 +13,8 @@ here c = held_at symbol_room loose c.args.trace.now c.args.at c.requires.1
 
 pub expr_at-e-requires : goal.expr_at-e-requires
 expr_at-e-requires c =
-    ((here (goal.at.expr_at-e-requires c).Start).whole, (here (goal.at.expr_at-e-requires c).Start).starts)
+    let entry = (goal.at.expr_at-e-requires c).Start in
+    ((here entry).whole, (here entry).starts)
 
 pub bounds-trace-at : goal.bounds-trace-at
 bounds-trace-at c =
@@ -24,26 +25,30 @@ two_at-symbol-requires c =
     omega (arith, ((here (goal.at.two_at-symbol-requires c).Start).assigns c.if-kind-eq1.true).2)
 
 pub put_assign-requires : goal.put_assign-requires
-put_assign-requires c = (
-  c.two_at-symbol.ensures.1,
-  expr-is-whole (here (goal.at.put_assign-requires c).Start) c.expr_at-e.ensures,
-  omega (arith, assign-length (here (goal.at.put_assign-requires c).Start) c.expr_at-e.ensures c.if-kind-eq1.true, c.requires.2),
-)
+put_assign-requires c =
+    let entry = (goal.at.put_assign-requires c).Start in (
+      c.two_at-symbol.ensures.1,
+      expr-is-whole (here entry) c.expr_at-e.ensures,
+      omega (arith, assign-length (here entry) c.expr_at-e.ensures c.if-kind-eq1.true, c.requires.2),
+    )
 
 pub returns-then-kind-eq1 : goal.returns-then-kind-eq1
-returns-then-kind-eq1 c = (
-  wrote_as (assign-piece (here (goal.at.returns-then-kind-eq1 c).Start) c.expr_at-e.ensures _ c.if-kind-eq1.true c.two_at-symbol.ensures.0) c.put_assign.ensures.0,
-  omega (arith, assign-length (here (goal.at.returns-then-kind-eq1 c).Start) c.expr_at-e.ensures c.if-kind-eq1.true, c.put_assign.ensures.1),
-)
+returns-then-kind-eq1 c =
+    let entry = (goal.at.returns-then-kind-eq1 c).Start in (
+      wrote_as (assign-piece (here entry) c.expr_at-e.ensures _ c.if-kind-eq1.true c.two_at-symbol.ensures.0) c.put_assign.ensures.0,
+      omega (arith, assign-length (here entry) c.expr_at-e.ensures c.if-kind-eq1.true, c.put_assign.ensures.1),
+    )
 
 pub put_test-requires : goal.put_test-requires
-put_test-requires c = (
-  expr-is-whole (here (goal.at.put_test-requires c).Start) c.expr_at-e.ensures,
-  omega (arith, test-length (here (goal.at.put_test-requires c).Start) c.expr_at-e.ensures c.if-kind-eq1.false, c.requires.2),
-)
+put_test-requires c =
+    let entry = (goal.at.put_test-requires c).Start in (
+      expr-is-whole (here entry) c.expr_at-e.ensures,
+      omega (arith, test-length (here entry) c.expr_at-e.ensures c.if-kind-eq1.false, c.requires.2),
+    )
 
 pub returns : goal.returns
-returns c = (
-  wrote_as (test-piece (here (goal.at.returns c).Start) c.expr_at-e.ensures _ c.if-kind-eq1.false) c.put_test.ensures.0,
-  omega (arith, test-length (here (goal.at.returns c).Start) c.expr_at-e.ensures c.if-kind-eq1.false, c.put_test.ensures.1),
-)
+returns c =
+    let entry = (goal.at.returns c).Start in (
+      wrote_as (test-piece (here entry) c.expr_at-e.ensures _ c.if-kind-eq1.false) c.put_test.ensures.0,
+      omega (arith, test-length (here entry) c.expr_at-e.ensures c.if-kind-eq1.false, c.put_test.ensures.1),
+    )

@@ -8,7 +8,14 @@ returns-then-code-ge42 c = (
   wrote_as (test_back _ _ c.if-code-ge42.true)
       ((((c.put_front-a.ensures.0 then c.put_name-b.ensures.0) then c.fit_byte-c.ensures) then c.put_name-d.ensures.0) then
       c.fit_part.ensures),
-  omega (arith, c.put_front-a.ensures.1, c.put_name-b.ensures.1, c.fit_byte-c.ensures.next, c.put_name-d.ensures.1, c.fit_part.ensures.next),
+  omega (
+    arith,
+    c.put_front-a.ensures.1,
+    c.put_name-b.ensures.1,
+    c.fit_byte-c.ensures.next,
+    c.put_name-d.ensures.1,
+    c.fit_part.ensures.next,
+  ),
 )
 
 pub returns : goal.returns

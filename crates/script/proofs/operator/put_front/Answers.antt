@@ -58,4 +58,5 @@ pub returns-in-45 : goal.returns-in-45
 returns-in-45 c = fronted _ (Bin Ule) tt c.in-45.is refl c.fit_part-in-45.ensures
 
 pub returns-in_default : goal.returns-in_default
-returns-in_default c = fronted _ Ite tt (only-ite _ (search rules) c.requires.0 c.in_default.in_default-own.rest) refl c.fit_part-in_default.ensures
+returns-in_default c = fronted _ Ite tt (only-ite _ (search rules) c.requires.0 c.in_default.in_default-own.rest) refl
+    c.fit_part-in_default.ensures

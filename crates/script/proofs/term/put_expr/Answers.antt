@@ -16,11 +16,17 @@ loop-i-init c =
     putting_start _ _ _ c.requires.0
 
 pub put_token-b-requires : goal.put_token-b-requires
-put_token-b-requires c =
-    (c.loop-i-test.true, putting_goes c.loop-i.invariant c.loop-i-test.true, omega (arith, c.loop-i-test.true, c.loop-i.invariant.little, c.requires.1))
+put_token-b-requires c = (
+  c.loop-i-test.true,
+  putting_goes c.loop-i.invariant c.loop-i-test.true,
+  omega
+      (arith, c.loop-i-test.true, c.loop-i.invariant.little, c.requires.1),
+)
 
 pub loop-i-smaller : goal.loop-i-smaller
-loop-i-smaller c = omega (arith, (on (goal.at.loop-i-smaller c).After-struct_known-1).onward.rest.inside, (on (goal.at.loop-i-smaller c).After-struct_known-1).some_byte)
+loop-i-smaller c =
+    let place = (goal.at.loop-i-smaller c).After-struct_known-1 in
+    omega (arith, (on place).onward.rest.inside, (on place).some_byte)
 
 pub loop-i-preserved : goal.loop-i-preserved
 loop-i-preserved c = (on (goal.at.loop-i-preserved c).After-struct_known-1).onward

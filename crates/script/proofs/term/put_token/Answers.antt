@@ -46,12 +46,14 @@ overflow_add-result c =
 
 pub returns : goal.returns
 returns c =
+    let entry = (goal.at.returns c).Start in
     let p = pops (goal.at.returns c).After-pops_of in (
-      c.size_of.ensures ∙ read-size Trace (here (goal.at.returns c).Start) c.token_here-t.ensures,
+      c.size_of.ensures ∙ read-size Trace (here entry) c.token_here-t.ensures,
       ap (λ j. c.args.d - j + 1) p,
       wrote_as (binding-is c.args.e.now c.args.i c.args.d c.requires.1 (ap (λ j. c.args.d - j) p)
-          (text-shown (here (goal.at.returns c).Start) _ c.token_here-t.ensures))
-          ((((c.fit_part-a.ensures then c.put_name-b.ensures.0) then c.fit_byte-c.ensures) then c.put_word-f.ensures.0) then c.fit_part-to.ensures),
+          (text-shown (here entry) _ c.token_here-t.ensures))
+          ((((c.fit_part-a.ensures then c.put_name-b.ensures.0) then c.fit_byte-c.ensures) then c.put_word-f.ensures.0)
+          then c.fit_part-to.ensures),
       omega (
         arith,
         c.fit_part-a.ensures.next,

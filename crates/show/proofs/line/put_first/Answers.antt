@@ -13,7 +13,8 @@ overflow_cast-inputs c = search rules
 pub returns : goal.returns
 unfolding input_room
 returns c = (
-  (((c.fit_part-a.ensures then c.fit_decimal-b.ensures.0) then c.fit_part-c.ensures) then c.fit_decimal-d.ensures.0) then c.fit_part.ensures,
+  (((c.fit_part-a.ensures then c.fit_decimal-b.ensures.0) then c.fit_part-c.ensures) then c.fit_decimal-d.ensures.0)
+      then c.fit_part.ensures,
   omega (
     arith,
     two_digits c.args.inputs (omega (arith, c.requires.0)),

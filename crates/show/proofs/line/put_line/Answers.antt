@@ -41,7 +41,12 @@ pub bounds-trace-at : goal.bounds-trace-at
 bounds-trace-at c = (here (goal.at.bounds-trace-at c).Start).kind-there
 
 pub two_at-place-requires : goal.two_at-place-requires
-two_at-place-requires c = omega (arith, (here (goal.at.two_at-place-requires c).Start).whole, some (goal.at.two_at-place-requires c).After-expr_at-e)
+two_at-place-requires c = omega (
+  arith,
+  (here (goal.at.two_at-place-requires c).Start).whole,
+  some
+      (goal.at.two_at-place-requires c).After-expr_at-e,
+)
 
 pub two_at-symbol-requires : goal.two_at-symbol-requires
 two_at-symbol-requires c =
@@ -54,8 +59,11 @@ pub fit_decimal-c-requires : goal.fit_decimal-c-requires
 fit_decimal-c-requires c = search (rules, assigns (goal.at.fit_decimal-c-requires c).Then-kind-eq1)
 
 pub put_tokens-d-requires : goal.put_tokens-d-requires
-put_tokens-d-requires c =
-    (expr-is-whole (here (goal.at.put_tokens-d-requires c).Start) c.expr_at-e.ensures, search (rules, assigns (goal.at.put_tokens-d-requires c).Then-kind-eq1))
+put_tokens-d-requires c = (
+  expr-is-whole (here (goal.at.put_tokens-d-requires c).Start) c.expr_at-e.ensures,
+  search
+      (rules, assigns (goal.at.put_tokens-d-requires c).Then-kind-eq1),
+)
 
 pub fit_part-requires : goal.fit_part-requires
 fit_part-requires c =
@@ -66,7 +74,8 @@ fit_part-requires c =
 
 pub returns-then-kind-eq1 : goal.returns-then-kind-eq1
 returns-then-kind-eq1 c = (
-  wrote_as (assign_line (here (goal.at.returns-then-kind-eq1 c).Start) c.expr_at-e.ensures c.if-kind-eq1.true _ _ c.two_at-place.ensures.0 c.two_at-symbol.ensures.0)
+  wrote_as (assign_line (here (goal.at.returns-then-kind-eq1 c).Start) c.expr_at-e.ensures c.if-kind-eq1.true _ _ c.two_at-place.ensures.0
+      c.two_at-symbol.ensures.0)
       ((((c.fit_decimal-a.ensures.0 then c.fit_part-b.ensures) then c.fit_decimal-c.ensures.0) then c.put_tokens-d.ensures.0) then
       c.fit_part.ensures),
   omega (
@@ -84,8 +93,11 @@ pub put_kind-b-requires : goal.put_kind-b-requires
 put_kind-b-requires c = search (rules, some (goal.at.put_kind-b-requires c).After-expr_at-e)
 
 pub put_tokens-c-requires : goal.put_tokens-c-requires
-put_tokens-c-requires c =
-    (expr-is-whole (here (goal.at.put_tokens-c-requires c).Start) c.expr_at-e.ensures, search (rules, c.put_kind-b.ensures.1, tests (goal.at.put_tokens-c-requires c).Else-kind-eq1))
+put_tokens-c-requires c = (
+  expr-is-whole (here (goal.at.put_tokens-c-requires c).Start) c.expr_at-e.ensures,
+  search
+      (rules, c.put_kind-b.ensures.1, tests (goal.at.put_tokens-c-requires c).Else-kind-eq1),
+)
 
 pub fit_part-requires-2 : goal.fit_part-requires-2
 fit_part-requires-2 c =
@@ -100,6 +112,13 @@ pub returns : goal.returns
 returns c = (
   wrote_as (test-line (here (goal.at.returns c).Start) c.expr_at-e.ensures c.if-kind-eq1.false _ c.two_at-place.ensures.0)
       (((c.fit_decimal-a.ensures.0 then c.put_kind-b.ensures.0) then c.put_tokens-c.ensures.0) then c.fit_part-2.ensures),
-  omega
-      (arith, c.fit_decimal-a.ensures.1, c.put_kind-b.ensures.1, c.put_tokens-c.ensures.1, c.fit_part-2.ensures.next, tests (goal.at.returns c).Else-kind-eq1),
+  omega (
+    arith,
+    c.fit_decimal-a.ensures.1,
+    c.put_kind-b.ensures.1,
+    c.put_tokens-c.ensures.1,
+    c.fit_part-2.ensures.next,
+    tests
+        (goal.at.returns c).Else-kind-eq1,
+  ),
 )

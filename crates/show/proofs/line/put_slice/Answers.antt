@@ -21,7 +21,8 @@ put_first-a-requires c =
 
 pub returns : goal.returns
 returns c = (
-  wrote_as (told_text _ (here (goal.at.returns c).Start) c.inputs_of-inputs.result c.count_of-n.result c.inputs_of-inputs.ensures c.count_of-n.ensures)
+  wrote_as (told_text _ (here (goal.at.returns c).Start) c.inputs_of-inputs.result c.count_of-n.result c.inputs_of-inputs.ensures
+      c.count_of-n.ensures)
       (c.put_first-a.ensures.0 then c.put_lines.ensures.0),
   c.put_lines.ensures.1,
 )

@@ -11,7 +11,7 @@ use Rattle.expr.specs.declared.token.Read.TheVariants as R
 use Rattle.expr.specs.Token.{Token, read_token}
 use Rattle.expr.specs.Shown.{shown_token, read_size, size_of}
 use Rattle.expr.proofs.Reading.{read-size, shown-operator}
-use Rattle.expr.proofs.Steps.{not_nothing, symbol-below}
+use Rattle.expr.proofs.Steps.{symbol-below}
 use Rattle.trace.specs.Shown.{symbol_room}
 use Rattle.trace.specs.TraceLaws.{symbols-few}
 use Rattle.write.specs.SpliceLaws.{◌then◌, wrote_as}
@@ -42,38 +42,48 @@ module _ (c : After-size_of-size) where
   symbol-small : {s : ℕ} → read ≡ R.Symbol s → s < symbol_room
   symbol-small p = symbol-below Trace symbol_room start.args.e.now start.args.i start.requires.1 is_read p
 
-  nothing_is : read ≡ R.Nothing → ⊥
-  nothing_is p = not_nothing Trace symbol_room start.args.e.now start.args.i start.requires.1 is_read p
-
 pub overflow_cast-s : goal.overflow_cast-s
 overflow_cast-s c =
     let told = c.in-Symbol.is in
     omega (arith, symbol-small (goal.at.overflow_cast-s c).After-size_of-size told, symbols-few)
 
 pub put_name-requires : goal.put_name-requires
-put_name-requires c = let told = c.in-Operator.is in
-    ((shown-operator (here (goal.at.put_name-requires c).After-size_of-size) _ (sym (is_read (goal.at.put_name-requires c).After-size_of-size) ∙ told)).pops_some, search (rules, size-by (goal.at.put_name-requires c).After-size_of-size told))
+put_name-requires c =
+    let place = (goal.at.put_name-requires c).After-size_of-size in
+    let told = c.in-Operator.is in
+    ((shown-operator (here place) _ (sym (is_read place) ∙ told)).pops_some, search (rules, size-by place told))
 
 pub returns-in-Constant : goal.returns-in-Constant
 returns-in-Constant c =
+    let place = (goal.at.returns-in-Constant c).After-size_of-size in
     let told = c.in-Constant.is in (
-      size_is (goal.at.returns-in-Constant c).After-size_of-size,
-      wrote_as (constant-text (here (goal.at.returns-in-Constant c).After-size_of-size) (is_read (goal.at.returns-in-Constant c).After-size_of-size) told) (c.fit_byte-a.ensures then c.fit_decimal.ensures.0),
-      omega (arith, size_is (goal.at.returns-in-Constant c).After-size_of-size, size-by (goal.at.returns-in-Constant c).After-size_of-size told, c.fit_byte-a.ensures.next, c.fit_decimal.ensures.1),
+      size_is place,
+      wrote_as (constant-text (here place) (is_read place) told) (c.fit_byte-a.ensures then c.fit_decimal.ensures.0),
+      omega (arith, size_is place, size-by place told, c.fit_byte-a.ensures.next, c.fit_decimal.ensures.1),
     )
 
 pub returns-in-Symbol : goal.returns-in-Symbol
 returns-in-Symbol c =
+    let place = (goal.at.returns-in-Symbol c).After-size_of-size in
     let told = c.in-Symbol.is in (
-      size_is (goal.at.returns-in-Symbol c).After-size_of-size,
-      wrote_as (symbol-text (here (goal.at.returns-in-Symbol c).After-size_of-size) (is_read (goal.at.returns-in-Symbol c).After-size_of-size) told) (c.fit_byte-a.ensures then c.fit_byte-b.ensures then c.fit_decimal-in-Symbol.ensures.0),
-      omega (arith, size_is (goal.at.returns-in-Symbol c).After-size_of-size, size-by (goal.at.returns-in-Symbol c).After-size_of-size told, c.fit_byte-a.ensures.next, c.fit_byte-b.ensures.next, c.fit_decimal-in-Symbol.ensures.1),
+      size_is place,
+      wrote_as (symbol-text (here place) (is_read place) told)
+          (c.fit_byte-a.ensures then c.fit_byte-b.ensures then c.fit_decimal-in-Symbol.ensures.0),
+      omega (
+        arith,
+        size_is place,
+        size-by place told,
+        c.fit_byte-a.ensures.next,
+        c.fit_byte-b.ensures.next,
+        c.fit_decimal-in-Symbol.ensures.1,
+      ),
     )
 
 pub returns-in-Operator : goal.returns-in-Operator
 returns-in-Operator c =
+    let place = (goal.at.returns-in-Operator c).After-size_of-size in
     let told = c.in-Operator.is in (
-      size_is (goal.at.returns-in-Operator c).After-size_of-size,
-      wrote_as (operator-text (here (goal.at.returns-in-Operator c).After-size_of-size) (is_read (goal.at.returns-in-Operator c).After-size_of-size) told) (c.fit_byte-a.ensures then c.put_name.ensures.0),
-      omega (arith, size_is (goal.at.returns-in-Operator c).After-size_of-size, size-by (goal.at.returns-in-Operator c).After-size_of-size told, c.fit_byte-a.ensures.next, c.put_name.ensures.1),
+      size_is place,
+      wrote_as (operator-text (here place) (is_read place) told) (c.fit_byte-a.ensures then c.put_name.ensures.0),
+      omega (arith, size_is place, size-by place told, c.fit_byte-a.ensures.next, c.put_name.ensures.1),
     )

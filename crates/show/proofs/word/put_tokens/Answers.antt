@@ -19,7 +19,9 @@ put_token-p-requires c = let v = c.loop-i.invariant in let h = c.loop-i-test.tru
     (h, stands v.rest h, putting_room v h c.requires.1)
 
 pub loop-i-smaller : goal.loop-i-smaller
-loop-i-smaller c = omega (arith, (on (goal.at.loop-i-smaller c).After-struct_known-1).then.rest.inside, (on (goal.at.loop-i-smaller c).After-struct_known-1).some_byte)
+loop-i-smaller c =
+    let place = (goal.at.loop-i-smaller c).After-struct_known-1 in
+    omega (arith, (on place).then.rest.inside, (on place).some_byte)
 
 pub loop-i-preserved : goal.loop-i-preserved
 loop-i-preserved c = (on (goal.at.loop-i-preserved c).After-struct_known-1).then

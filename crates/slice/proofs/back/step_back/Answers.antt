@@ -18,5 +18,6 @@ two_at-requires c =
 
 pub returns-then-keeps : goal.returns-then-keeps
 returns-then-keeps c =
-    stepped_kept (here (goal.at.returns-then-keeps c).Start) c.args.k c.args.behind c.args.kept.now c.args.needed.now _ c.keeps.ensures c.if-keeps.true
+    stepped_kept (here (goal.at.returns-then-keeps c).Start) c.args.k c.args.behind c.args.kept.now c.args.needed.now _ c.keeps.ensures
+    c.if-keeps.true
     c.mark_record.new.needed c.mark_record.ensures _ c.has_assert.ensures _ c.two_at.ensures.0

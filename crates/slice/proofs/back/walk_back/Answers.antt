@@ -48,5 +48,6 @@ loop-k-preserved c =
     let w = c.loop-k.invariant in
     let x = stands c.requires.0 (c.loop-k.k - 1) (omega (arith, c.loop-k-test.true, w.inside, counted c.requires.0)) in
     walk-on w c.loop-k-test.true x.statement x.after x.is-here _
-    (record-length c.args.trace.now (get_or c.args.offsets.now (c.loop-k.k - 1) 0) (bytes (goal.at.loop-k-preserved c).After-shared_slice_known-1) x.statement x.good)
+    (record-length c.args.trace.now (get_or c.args.offsets.now (c.loop-k.k - 1) 0)
+    (bytes (goal.at.loop-k-preserved c).After-shared_slice_known-1) x.statement x.good)
     _ x.good c.step_back-behind.ensures c.step_back-behind.auto.kept c.step_back-behind.auto.needed

@@ -23,12 +23,14 @@ rest_of-requires c = (omega arith, (here (goal.at.rest_of-requires c).Start).who
 pub put_part-requires : goal.put_part-requires
 put_part-requires c =
     subst (λ bs. c.args.to + length bs ≤ length c.args.out.now)
-    (sym (part-is (here (goal.at.put_part-requires c).Start) c.args.keep (bytes (goal.at.put_part-requires c).After-shared_slice_known-1) c.if-keep.true
+    (sym (part-is (here (goal.at.put_part-requires c).Start) c.args.keep
+    (bytes (goal.at.put_part-requires c).After-shared_slice_known-1) c.if-keep.true
     c.rest_of.ensures)) c.requires.2
 
 pub returns-then-keep : goal.returns-then-keep
 returns-then-keep c =
-    wrote_as (part-is (here (goal.at.returns-then-keep c).Start) c.args.keep (bytes (goal.at.returns-then-keep c).After-shared_slice_known-1)
+    wrote_as (part-is (here (goal.at.returns-then-keep c).Start) c.args.keep
+    (bytes (goal.at.returns-then-keep c).After-shared_slice_known-1)
     c.if-keep.true c.rest_of.ensures)
     c.put_part.ensures
 

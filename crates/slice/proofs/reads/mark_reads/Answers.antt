@@ -26,7 +26,9 @@ mark_token-size-requires c = let v = c.loop-i.invariant in let h = c.loop-i-test
 )
 
 pub loop-i-smaller : goal.loop-i-smaller
-loop-i-smaller c = omega (arith, (on (goal.at.loop-i-smaller c).After-slice_known-in-loop-i-1).then.rest.inside, (on (goal.at.loop-i-smaller c).After-slice_known-in-loop-i-1).some_byte)
+loop-i-smaller c =
+    let place = (goal.at.loop-i-smaller c).After-slice_known-in-loop-i-1 in
+    omega (arith, (on place).then.rest.inside, (on place).some_byte)
 
 pub loop-i-preserved : goal.loop-i-preserved
 loop-i-preserved c = (on (goal.at.loop-i-preserved c).After-slice_known-in-loop-i-1).then

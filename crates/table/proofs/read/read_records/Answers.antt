@@ -49,9 +49,12 @@ module _ (c : Else-len-eq0) where
 
 -- and what is wrong with it is so in the table
 points-inside : (c : After-body_fault-fault)
-    → at (goal.at.After-body_fault-fault c).Else-len-eq0 + c.body_fault-fault.result.from ≤ length (s (goal.at.After-body_fault-fault c).Else-len-eq0)
+    → at (goal.at.After-body_fault-fault c).Else-len-eq0 + c.body_fault-fault.result.from
+    ≤ length (s (goal.at.After-body_fault-fault c).Else-len-eq0)
 points-inside c =
-    let points = fault_inside (length (body (goal.at.After-body_fault-fault c).Else-len-eq0)) (one (goal.at.After-body_fault-fault c).Else-len-eq0 (body (goal.at.After-body_fault-fault c).Else-len-eq0)) c.body_fault-fault.result c.body_fault-fault.ensures in
+    let points = fault_inside (length (body (goal.at.After-body_fault-fault c).Else-len-eq0))
+    (one (goal.at.After-body_fault-fault c).Else-len-eq0 (body (goal.at.After-body_fault-fault c).Else-len-eq0))
+    c.body_fault-fault.result c.body_fault-fault.ensures in
     omega (arith, inside (goal.at.After-body_fault-fault c).Else-len-eq0, cut_all (goal.at.After-body_fault-fault c).Else-len-eq0)
 
 pub overflow_add-len : goal.overflow_add-len
@@ -65,17 +68,19 @@ slice_bounds-body_fault-end c = omega (arith, inside (goal.at.slice_bounds-body_
 
 pub returns-then-fault-ne0 : goal.returns-then-fault-ne0
 returns-then-fault-ne0 c =
+    let place = (goal.at.returns-then-fault-ne0 c).Else-len-eq0 in
     let g = fault_bad _ _ _ c.body_fault-fault.ensures c.if-fault-ne0.true in
-    refuse _ _ _ _ _ _ c.loop-k.invariant c.loop-k-test.true g.0 (cut (goal.at.returns-then-fault-ne0 c).Else-len-eq0 ∙ g.1)
-    (cut_all (goal.at.returns-then-fault-ne0 c).Else-len-eq0 ∙ c.frame_at-len.ensures) g.2 refl (points-inside (goal.at.returns-then-fault-ne0 c).After-body_fault-fault)
+    refuse _ _ _ _ _ _ c.loop-k.invariant c.loop-k-test.true g.0 (cut place ∙ g.1)
+    (cut_all place ∙ c.frame_at-len.ensures) g.2 refl (points-inside (goal.at.returns-then-fault-ne0 c).After-body_fault-fault)
 
 pub loop-k-preserved : goal.loop-k-preserved
 loop-k-preserved c =
+    let place = (goal.at.loop-k-preserved c).Else-len-eq0 in
     let g = fault_good _ _ _ (instr-low _ _ _) c.body_fault-fault.ensures c.if-fault-ne0.false in
     on _ _ _ _ _ _ c.loop-k.invariant
-    c.loop-k-test.true g.0 (cut (goal.at.loop-k-preserved c).Else-len-eq0 ∙ g.1)
+    c.loop-k-test.true g.0 (cut place ∙ g.1)
     c.frame_at-len.result c.frame_at-len.ensures
-    (inside (goal.at.loop-k-preserved c).Else-len-eq0)
+    (inside place)
 
 pub returns-then-at-table : goal.returns-then-at-table
 returns-then-at-table c = done _ _ _ _ _ _ c.loop-k.invariant c.loop-k-test.false c.if-at-table.true

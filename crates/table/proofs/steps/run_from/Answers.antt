@@ -32,19 +32,21 @@ module _ (c : After-shared_slice_known-1) where
 
 pub loop-i-init : goal.loop-i-init
 loop-i-init c =
-    start c.args.table.now c.args.offsets.now c.args.n c.args.bound (length c.args.vals.now) _ _ (is-loaded (goal.at.loop-i-init c).After-shared_slice_known-1)
-    (counted (goal.at.loop-i-init c).After-shared_slice_known-1) (symbols (goal.at.loop-i-init c).After-shared_slice_known-1 c.args.vals.now refl) c.requires.1.stored c.args.vals.now
+    let place = (goal.at.loop-i-init c).After-shared_slice_known-1 in
+    start c.args.table.now c.args.offsets.now c.args.n c.args.bound (length c.args.vals.now) _ _ (is-loaded place)
+    (counted place) (symbols place c.args.vals.now refl) c.requires.1.stored c.args.vals.now
 
 pub step_at-m-requires : goal.step_at-m-requires
 step_at-m-requires c =
+    let place = (goal.at.step_at-m-requires c).After-shared_slice_known-1 in
     let v = c.loop-i.invariant in (
       omega (arith, c.shared_slice_known-in-loop-i-1.given c.loop-i.i),
-      few (goal.at.step_at-m-requires c).After-shared_slice_known-1,
+      few place,
       c.loop-i-test.true,
       v.few,
       c.requires.0,
       ap is_good (here c.args.table.now c.args.offsets.now c.args.n c.args.bound (length c.loop-i.vals) _ _
-          (is-loaded (goal.at.step_at-m-requires c).After-shared_slice_known-1) (counted (goal.at.step_at-m-requires c).After-shared_slice_known-1) (symbols (goal.at.step_at-m-requires c).After-shared_slice_known-1 c.loop-i.vals v.long) c.requires.1.stored c.args.vals.now c.loop-i.i
+          (is-loaded place) (counted place) (symbols place c.loop-i.vals v.long) c.requires.1.stored c.args.vals.now c.loop-i.i
           c.loop-i-test.true).good,
     )
 
@@ -65,8 +67,10 @@ module _ (c : In-Go) where
       c.in-Go.taken
   on =
       let v = c.loop-i.invariant in
-      goes_on table s.args.offsets.now s.args.n s.args.bound (length c.loop-i.vals) _ _ (is-loaded (goal.at.In-Go c).After-shared_slice_known-1) (counted (goal.at.In-Go c).After-shared_slice_known-1)
-      (symbols (goal.at.In-Go c).After-shared_slice_known-1 c.loop-i.vals v.long) s.requires.1.stored s.args.vals.now v c.loop-i-test.true _ left-vals
+      goes_on table s.args.offsets.now s.args.n s.args.bound (length c.loop-i.vals) _ _
+      (is-loaded (goal.at.In-Go c).After-shared_slice_known-1) (counted (goal.at.In-Go c).After-shared_slice_known-1)
+      (symbols (goal.at.In-Go c).After-shared_slice_known-1 c.loop-i.vals v.long) s.requires.1.stored s.args.vals.now v c.loop-i-test.true _
+      left-vals
       c.step_at-m.ensures c.step_at-m.auto.vals _ _ c.in-Go.is
 
 pub loop-i-preserved : goal.loop-i-preserved
@@ -74,13 +78,15 @@ loop-i-preserved c = (on (goal.at.loop-i-preserved c).In-Go).running
 
 pub returns-in-End : goal.returns-in-End
 returns-in-End c =
+    let place = (goal.at.returns-in-End c).After-shared_slice_known-1 in
     let v = c.loop-i.invariant in
-    halts c.args.table.now c.args.offsets.now c.args.n c.args.bound (length c.loop-i.vals) _ _ (is-loaded (goal.at.returns-in-End c).After-shared_slice_known-1)
-    (counted (goal.at.returns-in-End c).After-shared_slice_known-1) (symbols (goal.at.returns-in-End c).After-shared_slice_known-1 c.loop-i.vals v.long) c.requires.1.stored c.args.vals.now v c.loop-i-test.true _
+    halts c.args.table.now c.args.offsets.now c.args.n c.args.bound (length c.loop-i.vals) _ _ (is-loaded place)
+    (counted place) (symbols place c.loop-i.vals v.long) c.requires.1.stored c.args.vals.now v c.loop-i-test.true _
     c.step_at-m.new.vals c.step_at-m.ensures _ _ c.in-End.is
 
 pub returns : goal.returns
 returns c =
+    let place = (goal.at.returns c).After-shared_slice_known-1 in
     let v = c.loop-i.invariant in
-    end c.args.table.now c.args.offsets.now c.args.n c.args.bound (length c.loop-i.vals) _ _ (is-loaded (goal.at.returns c).After-shared_slice_known-1)
-    (counted (goal.at.returns c).After-shared_slice_known-1) (symbols (goal.at.returns c).After-shared_slice_known-1 c.loop-i.vals v.long) c.requires.1.stored c.args.vals.now v c.loop-i-test.false
+    end c.args.table.now c.args.offsets.now c.args.n c.args.bound (length c.loop-i.vals) _ _ (is-loaded place)
+    (counted place) (symbols place c.loop-i.vals v.long) c.requires.1.stored c.args.vals.now v c.loop-i-test.false

@@ -39,12 +39,14 @@ two_at-target-requires c =
 
 pub returns-then-kind-eq4 : goal.returns-then-kind-eq4
 returns-then-kind-eq4 c =
-    goto_jumps c.args.vals.now (held (goal.at.returns-then-kind-eq4 c).Start) c.args.bound c.args.i c.args.r _ c.value_at-w.ensures _ _ c.if-kind-eq4.true c.if-w-eq0.false
+    goto_jumps c.args.vals.now (held (goal.at.returns-then-kind-eq4 c).Start) c.args.bound c.args.i c.args.r _ c.value_at-w.ensures _ _
+    c.if-kind-eq4.true c.if-w-eq0.false
     c.two_at-target.ensures.0 (c.jump.ensures c.args.n (env_of c.args.vals.now))
 
 pub returns-then-w-eq0-2 : goal.returns-then-w-eq0-2
 returns-then-w-eq0-2 c =
-    test-fails c.args.vals.now (held (goal.at.returns-then-w-eq0-2 c).Start) c.args.bound c.args.i c.args.r _ c.value_at-w.ensures _ _ c.if-kind-eq1.false c.if-kind-eq4.false
+    test-fails c.args.vals.now (held (goal.at.returns-then-w-eq0-2 c).Start) c.args.bound c.args.i c.args.r _ c.value_at-w.ensures _ _
+    c.if-kind-eq1.false c.if-kind-eq4.false
     c.if-w-eq0-2.true (place_is c.args.n c.args.i c.args.r) c.failed.ensures
 
 pub returns : goal.returns

@@ -20,7 +20,8 @@ returns-then-body-lt5 c =
 pub returns-then-symbol-least : goal.returns-then-symbol-least
 returns-then-symbol-least c =
     c.at_record-then-symbol-least.ensures
-    ∙ sym (assign-low (c.args.inputs + 4096) (σ (goal.at.returns-then-symbol-least c).Start) c.args.body.now c.requires.0 c.if-kind-eq1.true c.if-body-lt5.false
+    ∙ sym (assign-low (c.args.inputs + 4096) (σ (goal.at.returns-then-symbol-least c).Start) c.args.body.now c.requires.0 c.if-kind-eq1.true
+    c.if-body-lt5.false
     (rw c.two_at-symbol.ensures.0 at c.if-symbol-least.true))
 
 pub overflow_add-inputs : goal.overflow_add-inputs
@@ -29,13 +30,16 @@ overflow_add-inputs c = omega (arith, c.requires.1, symbols_in_two-bytes)
 pub returns-then-inputs-symbol : goal.returns-then-inputs-symbol
 returns-then-inputs-symbol c =
     c.at_record-then-inputs-symbol.ensures
-    ∙ sym (assign_high (c.args.inputs + 4096) (σ (goal.at.returns-then-inputs-symbol c).Start) c.args.body.now c.requires.0 c.if-kind-eq1.true c.if-body-lt5.false
+    ∙ sym (assign_high (c.args.inputs + 4096) (σ (goal.at.returns-then-inputs-symbol c).Start) c.args.body.now c.requires.0
+    c.if-kind-eq1.true c.if-body-lt5.false
     (rw c.two_at-symbol.ensures.0 at c.if-symbol-least.false) (rw c.two_at-symbol.ensures.0 at c.if-inputs-symbol.true))
 
 pub returns-then-kind-eq1 : goal.returns-then-kind-eq1
 returns-then-kind-eq1 c =
-    c.expr_fault.ensures ∙ sym (assign-expr (c.args.inputs + 4096) (σ (goal.at.returns-then-kind-eq1 c).Start) c.args.body.now c.requires.0 c.if-kind-eq1.true
-    c.if-body-lt5.false (rw c.two_at-symbol.ensures.0 at c.if-symbol-least.false) (rw c.two_at-symbol.ensures.0 at c.if-inputs-symbol.false))
+    c.expr_fault.ensures ∙ sym (assign-expr (c.args.inputs + 4096)
+    (σ (goal.at.returns-then-kind-eq1 c).Start) c.args.body.now c.requires.0 c.if-kind-eq1.true
+    c.if-body-lt5.false (rw c.two_at-symbol.ensures.0 at c.if-symbol-least.false)
+    (rw c.two_at-symbol.ensures.0 at c.if-inputs-symbol.false))
 
 pub returns-then-body-lt3 : goal.returns-then-body-lt3
 returns-then-body-lt3 c =
@@ -45,7 +49,8 @@ returns-then-body-lt3 c =
 
 pub returns-then-known_test : goal.returns-then-known_test
 returns-then-known_test c =
-    c.expr_fault-then-known_test.ensures ∙ sym (test-expr (c.args.inputs + 4096) (σ (goal.at.returns-then-known_test c).Start) c.args.body.now c.requires.0
+    c.expr_fault-then-known_test.ensures ∙ sym (test-expr (c.args.inputs + 4096)
+    (σ (goal.at.returns-then-known_test c).Start) c.args.body.now c.requires.0
     (sym c.known_test.ensures ∙ c.if-known_test.true) c.if-body-lt3.false)
 
 pub returns : goal.returns

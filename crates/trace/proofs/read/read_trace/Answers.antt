@@ -44,17 +44,18 @@ pub count_of-n-requires : goal.count_of-n-requires
 count_of-n-requires c = (head (goal.at.count_of-n-requires c).Else-head-ne0).long
 
 pub read_records-requires : goal.read_records-requires
-read_records-requires c = (
-  (head (goal.at.read_records-requires c).Else-head-ne0).long,
-  small (goal.at.read_records-requires c).Else-head-ne0,
-  omega (arith, (head (goal.at.read_records-requires c).Else-head-ne0).inputs, inputs-room (header_version (s (goal.at.read_records-requires c).Else-head-ne0)), c.inputs_of-inputs.ensures),
-  omega (
-    arith,
-    (head (goal.at.read_records-requires c).Else-head-ne0).count,
-    c.count_of-n.ensures,
-    c.requires,
-  ),
-)
+read_records-requires c =
+    let place = (goal.at.read_records-requires c).Else-head-ne0 in (
+      (head place).long,
+      small place,
+      omega (arith, (head place).inputs, inputs-room (header_version (s place)), c.inputs_of-inputs.ensures),
+      omega (
+        arith,
+        (head place).count,
+        c.count_of-n.ensures,
+        c.requires,
+      ),
+    )
 
 pub returns : goal.returns
 returns c =

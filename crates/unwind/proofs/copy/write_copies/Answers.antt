@@ -33,7 +33,8 @@ write_copy-g-requires c =
 
 pub loop-r-preserved : goal.loop-r-preserved
 loop-r-preserved c =
-    copies-on (count-is (goal.at.loop-r-preserved c).After-shared_slice_known-1) c.loop-r.invariant c.loop-r-test.true _ _ _ c.write_copy-g.auto.names c.write_copy-g.ensures
+    copies-on (count-is (goal.at.loop-r-preserved c).After-shared_slice_known-1) c.loop-r.invariant c.loop-r-test.true _ _ _
+    c.write_copy-g.auto.names c.write_copy-g.ensures
 
 pub returns : goal.returns
 returns c = copies-end (count-is (goal.at.returns c).After-shared_slice_known-1) c.loop-r.invariant c.loop-r-test.false

@@ -30,12 +30,13 @@ module _ (c : After-shared_slice_known-1) where
 
 pub write_place-g-requires : goal.write_place-g-requires
 write_place-g-requires c =
+    let place = (goal.at.write_place-g-requires c).After-shared_slice_known-1 in
     let pre = c.requires in
     let v = c.loop-i.invariant in
     let h = c.loop-i-test.true in
-    let o = bytes (goal.at.write_place-g-requires c).After-shared_slice_known-1 in (
+    let o = bytes place in (
       omega (arith, c.shared_slice_known-in-loop-i-1.given c.loop-i.i),
-      n-few (goal.at.write_place-g-requires c).After-shared_slice_known-1,
+      n-few place,
       h,
       pre.0,
       pre.1,
@@ -48,17 +49,19 @@ write_place-g-requires c =
 pub loop-i-preserved : goal.loop-i-preserved
 loop-i-preserved c =
     let pre = c.requires in
-    place-on _ _ _ (bytes (goal.at.loop-i-preserved c).After-shared_slice_known-1) pre.3 c.loop-i.invariant pre.4 c.loop-i-test.true _ _ _ c.write_place-g.auto.names
+    place-on _ _ _ (bytes (goal.at.loop-i-preserved c).After-shared_slice_known-1) pre.3 c.loop-i.invariant pre.4 c.loop-i-test.true _ _ _
+    c.write_place-g.auto.names
     c.write_place-g.ensures
 
 pub put_exit-to-requires : goal.put_exit-to-requires
-put_exit-to-requires c = (
-  omega (arith, exit-little (goal.at.put_exit-to-requires c).After-shared_slice_known-1),
-  omega
-      (arith, end-little (goal.at.put_exit-to-requires c).After-shared_slice_known-1),
-  exit_room c.loop-i.invariant
-      (count-is (goal.at.put_exit-to-requires c).After-shared_slice_known-1) c.loop-i-test.false c.requires.5,
-)
+put_exit-to-requires c =
+    let place = (goal.at.put_exit-to-requires c).After-shared_slice_known-1 in (
+      omega (arith, exit-little place),
+      omega
+          (arith, end-little place),
+      exit_room c.loop-i.invariant
+          (count-is place) c.loop-i-test.false c.requires.5,
+    )
 
 pub overflow_add-result : goal.overflow_add-result
 overflow_add-result c =

@@ -42,46 +42,52 @@ pub two_at-t-requires : goal.two_at-t-requires
 two_at-t-requires c = omega (arith, ((held (goal.at.two_at-t-requires c).Start).jumps c.requires.8).2)
 
 pub put_jump-to-requires : goal.put_jump-to-requires
-put_jump-to-requires c = (
-  omega (arith, here (goal.at.put_jump-to-requires c).Start),
-  part-whole c.args.names.now (held (goal.at.put_jump-to-requires c).Start) c.args.bound c.args.r c.args.i c.args.f.control c.args.f.next _
-      c.expr_at-e.ensures,
-  forward-room c.args.names.now (held (goal.at.put_jump-to-requires c).Start) c.args.bound c.args.r c.args.i c.args.f.control c.args.f.next _
-      c.expr_at-e.ensures c.requires.8 c.two_at-t.result c.two_at-t.ensures.0 c.if-i-t.true _ _
-      c.requires.7,
-  omega (arith, goal_small (goal.at.put_jump-to-requires c).After-two_at-t),
-)
+put_jump-to-requires c =
+    let entry = (goal.at.put_jump-to-requires c).Start in (
+      omega (arith, here entry),
+      part-whole c.args.names.now (held entry) c.args.bound c.args.r c.args.i c.args.f.control c.args.f.next _
+          c.expr_at-e.ensures,
+      forward-room c.args.names.now (held entry) c.args.bound c.args.r c.args.i c.args.f.control c.args.f.next _
+          c.expr_at-e.ensures c.requires.8 c.two_at-t.result c.two_at-t.ensures.0 c.if-i-t.true _ _
+          c.requires.7,
+      omega (arith, goal_small (goal.at.put_jump-to-requires c).After-two_at-t),
+    )
 
 pub returns-then-i-t : goal.returns-then-i-t
 returns-then-i-t c =
-    forward-written c.args.names.now (held (goal.at.returns-then-i-t c).Start) c.args.bound c.args.r c.args.i c.args.f.control c.args.f.next _
+    forward-written c.args.names.now (held (goal.at.returns-then-i-t c).Start) c.args.bound c.args.r c.args.i c.args.f.control c.args.f.next
+    _
     c.expr_at-e.ensures c.requires.8
     c.two_at-t.result c.two_at-t.ensures.0
     c.if-i-t.true _ refl _ refl c.put_jump-to.ensures
 
 pub put_jump-to-requires-then-r-bound : goal.put_jump-to-requires-then-r-bound
-put_jump-to-requires-then-r-bound c = (
-  omega (arith, here (goal.at.put_jump-to-requires-then-r-bound c).Start),
-  part-whole c.args.names.now (held (goal.at.put_jump-to-requires-then-r-bound c).Start) c.args.bound c.args.r c.args.i c.args.f.control c.args.f.next _
-      c.expr_at-e.ensures,
-  back-room c.args.names.now (held (goal.at.put_jump-to-requires-then-r-bound c).Start) c.args.bound c.args.r c.args.i c.args.f.control c.args.f.next _
-      c.expr_at-e.ensures c.requires.8 c.two_at-t.result c.two_at-t.ensures.0 c.if-i-t.false c.if-r-bound.true _ _ c.requires.7,
-  omega (arith, next_goal_small (goal.at.put_jump-to-requires-then-r-bound c).Then-r-bound),
-)
+put_jump-to-requires-then-r-bound c =
+    let entry = (goal.at.put_jump-to-requires-then-r-bound c).Start in (
+      omega (arith, here entry),
+      part-whole c.args.names.now (held entry) c.args.bound c.args.r c.args.i c.args.f.control c.args.f.next _
+          c.expr_at-e.ensures,
+      back-room c.args.names.now (held entry) c.args.bound c.args.r c.args.i c.args.f.control c.args.f.next _
+          c.expr_at-e.ensures c.requires.8 c.two_at-t.result c.two_at-t.ensures.0 c.if-i-t.false c.if-r-bound.true _ _ c.requires.7,
+      omega (arith, next_goal_small (goal.at.put_jump-to-requires-then-r-bound c).Then-r-bound),
+    )
 
 pub returns-then-r-bound : goal.returns-then-r-bound
 returns-then-r-bound c =
-    back-written c.args.names.now (held (goal.at.returns-then-r-bound c).Start) c.args.bound c.args.r c.args.i c.args.f.control c.args.f.next _
-    c.expr_at-e.ensures c.requires.8 c.two_at-t.result c.two_at-t.ensures.0 c.if-i-t.false c.if-r-bound.true _ refl _ refl c.put_jump-to-then-r-bound.ensures
+    back-written c.args.names.now (held (goal.at.returns-then-r-bound c).Start) c.args.bound c.args.r c.args.i c.args.f.control
+    c.args.f.next _
+    c.expr_at-e.ensures c.requires.8 c.two_at-t.result c.two_at-t.ensures.0 c.if-i-t.false c.if-r-bound.true _ refl _ refl
+    c.put_jump-to-then-r-bound.ensures
 
 pub put_bound-to-requires : goal.put_bound-to-requires
-put_bound-to-requires c = (
-  omega (arith, here (goal.at.put_bound-to-requires c).Start),
-  part-whole c.args.names.now (held (goal.at.put_bound-to-requires c).Start) c.args.bound c.args.r c.args.i c.args.f.control c.args.f.next _
-      c.expr_at-e.ensures,
-  bound-room c.args.names.now (held (goal.at.put_bound-to-requires c).Start) c.args.bound c.args.r c.args.i c.args.f.control c.args.f.next _
-      c.expr_at-e.ensures c.requires.8 c.two_at-t.result c.two_at-t.ensures.0 c.if-i-t.false c.if-r-bound.false _ _ c.requires.7,
-)
+put_bound-to-requires c =
+    let entry = (goal.at.put_bound-to-requires c).Start in (
+      omega (arith, here entry),
+      part-whole c.args.names.now (held entry) c.args.bound c.args.r c.args.i c.args.f.control c.args.f.next _
+          c.expr_at-e.ensures,
+      bound-room c.args.names.now (held entry) c.args.bound c.args.r c.args.i c.args.f.control c.args.f.next _
+          c.expr_at-e.ensures c.requires.8 c.two_at-t.result c.two_at-t.ensures.0 c.if-i-t.false c.if-r-bound.false _ _ c.requires.7,
+    )
 
 pub returns : goal.returns
 returns c =

@@ -36,31 +36,34 @@ pub bounds-names-symbol : goal.bounds-names-symbol
 bounds-names-symbol c = inside (goal.at.bounds-names-symbol c).After-byte_at-symbol
 
 pub put_assign-to-requires : goal.put_assign-to-requires
-put_assign-to-requires c = (
-  omega (arith, here (goal.at.put_assign-to-requires c).Start),
-  part-whole c.args.names.now (held (goal.at.put_assign-to-requires c).Start) c.args.bound c.args.r c.args.i c.args.f.control c.args.f.next _
-      c.expr_at-e.ensures,
-  assign-room c.args.names.now (held (goal.at.put_assign-to-requires c).Start) c.args.bound c.args.r c.args.i c.args.f.control c.args.f.next _
-      c.expr_at-e.ensures c.if-kind-eq1.true _ _ c.requires.7,
-)
+put_assign-to-requires c =
+    let entry = (goal.at.put_assign-to-requires c).Start in (
+      omega (arith, here entry),
+      part-whole c.args.names.now (held entry) c.args.bound c.args.r c.args.i c.args.f.control c.args.f.next _
+          c.expr_at-e.ensures,
+      assign-room c.args.names.now (held entry) c.args.bound c.args.r c.args.i c.args.f.control c.args.f.next _
+          c.expr_at-e.ensures c.if-kind-eq1.true _ _ c.requires.7,
+    )
 
 pub bounds-names-symbol-then-kind-eq1 : goal.bounds-names-symbol-then-kind-eq1
 bounds-names-symbol-then-kind-eq1 c = inside (goal.at.bounds-names-symbol-then-kind-eq1 c).After-byte_at-symbol
 
 pub returns-then-kind-eq1 : goal.returns-then-kind-eq1
 returns-then-kind-eq1 c =
-    assign-written c.args.names.now (held (goal.at.returns-then-kind-eq1 c).Start) c.args.bound c.args.r c.args.i c.args.f.control c.args.f.next _
+    assign-written c.args.names.now (held (goal.at.returns-then-kind-eq1 c).Start) c.args.bound c.args.r c.args.i c.args.f.control
+    c.args.f.next _
     c.expr_at-e.ensures c.if-kind-eq1.true _ c.byte_at-symbol.result refl c.byte_at-symbol.ensures.0 c.put_assign-to.ensures
 
 pub put_test-to-requires : goal.put_test-to-requires
 put_test-to-requires c =
+    let entry = (goal.at.put_test-to-requires c).Start in
     let a = c.if-kind-eq1.false in
     let b = c.if-kind-eq4.false in
-    let k = (held (goal.at.put_test-to-requires c).Start).kinds a b in (
-      omega (arith, here (goal.at.put_test-to-requires c).Start),
-      part-whole c.args.names.now (held (goal.at.put_test-to-requires c).Start) c.args.bound c.args.r c.args.i c.args.f.control c.args.f.next _
+    let k = (held entry).kinds a b in (
+      omega (arith, here entry),
+      part-whole c.args.names.now (held entry) c.args.bound c.args.r c.args.i c.args.f.control c.args.f.next _
           c.expr_at-e.ensures,
-      test-room c.args.names.now (held (goal.at.put_test-to-requires c).Start) c.args.bound c.args.r c.args.i c.args.f.control c.args.f.next _
+      test-room c.args.names.now (held entry) c.args.bound c.args.r c.args.i c.args.f.control c.args.f.next _
           c.expr_at-e.ensures a b _ _ c.requires.7,
       k.0,
       k.1,

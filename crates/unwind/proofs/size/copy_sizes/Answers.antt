@@ -11,13 +11,14 @@ bytes : (c : After-shared_slice_known-1) → All Byte c.args.table.now
 bytes c = all-at Byte c.args.table.now (λ i h. (c.shared_slice_known-1.given i).fits)
 
 pub instr_sizes-s-requires : goal.instr_sizes-s-requires
-instr_sizes-s-requires c = (
-  omega (arith, c.shared_slice_known-in-loop-i-1.given c.loop-i.i),
-  small _ _ _ (bytes (goal.at.instr_sizes-s-requires c).After-shared_slice_known-1)
-      c.requires,
-  readable _ _ _ (bytes (goal.at.instr_sizes-s-requires c).After-shared_slice_known-1)
-      c.requires _ c.loop-i-test.true,
-)
+instr_sizes-s-requires c =
+    let place = (goal.at.instr_sizes-s-requires c).After-shared_slice_known-1 in (
+      omega (arith, c.shared_slice_known-in-loop-i-1.given c.loop-i.i),
+      small _ _ _ (bytes place)
+          c.requires,
+      readable _ _ _ (bytes place)
+          c.requires _ c.loop-i-test.true,
+    )
 
 pub overflow_add-early : goal.overflow_add-early
 overflow_add-early c =
@@ -54,8 +55,9 @@ loop-i-preserved c =
 
 pub returns : goal.returns
 returns c =
-    let early = copy_summed _ _ _ (bytes (goal.at.returns c).After-shared_slice_known-1) c.requires c.loop-i.invariant.0
+    let place = (goal.at.returns c).After-shared_slice_known-1 in
+    let early = copy_summed _ _ _ (bytes place) c.requires c.loop-i.invariant.0
     c.loop-i-test.false in
-    let last = copy_summed _ _ _ (bytes (goal.at.returns c).After-shared_slice_known-1) c.requires c.loop-i.invariant.1
+    let last = copy_summed _ _ _ (bytes place) c.requires c.loop-i.invariant.1
     c.loop-i-test.false in
     (early.0, last.0, early.1, last.1)

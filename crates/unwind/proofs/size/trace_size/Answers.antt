@@ -1,7 +1,6 @@
-use Prim.Native.Nat.{◌+◌, ◌*◌, ◌≤◌}
+use Prim.Native.Nat.{◌+◌, ◌*◌}
 use mathlib.Core.Path.{ap₂}
 use Rattle.trace.specs.Trace.{trace_version}
-use Rattle.unwind.proofs.Sizes.{copies-little}
 use Rattle.unwind.proofs.size.trace_size.Goals as goal
 use Rattle.unwind.proofs.size.trace_size.Goals.{After-struct_known-2-1, Start}
 
@@ -9,9 +8,6 @@ use Rattle.unwind.proofs.size.trace_size.Goals.{After-struct_known-2-1, Start}
 module _ (c : After-struct_known-2-1) where
   abbrev start : Start
   start = (goal.at.After-struct_known-2-1 c).Start
-
-  copies : start.args.bound * c.copy_sizes-s.result.early ≤ 34258950375
-  copies = copies-little _ _ start.requires.0 c.copy_sizes-s.ensures.2
 
 pub returns : goal.returns
 unfolding trace_version

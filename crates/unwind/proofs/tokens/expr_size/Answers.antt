@@ -20,7 +20,8 @@ on : (c : After-token_here-t) → MeasureOn c.loop-i.invariant
 on c = measure_on c.loop-i.invariant c.loop-i-test.true c.token_here-t.ensures
 
 pub loop-i-smaller : goal.loop-i-smaller
-loop-i-smaller c = let k = on (goal.at.loop-i-smaller c).After-token_here-t in omega (arith, c.size_of-i.ensures, k.then.rest.inside, k.some_byte)
+loop-i-smaller c = let k = on (goal.at.loop-i-smaller c).After-token_here-t in omega
+    (arith, c.size_of-i.ensures, k.then.rest.inside, k.some_byte)
 
 pub loop-i-preserved : goal.loop-i-preserved
 loop-i-preserved c = rw (c.size_of-i.ensures, c.size_of-size.ensures) (on (goal.at.loop-i-preserved c).After-token_here-t).then

@@ -1,20 +1,20 @@
 -- What is read of the token says its bytes in the trace.
-use Prim.Native.Nat.{ℕ, ◌+◌, ◌≤◌, ◌<◌}
+use Prim.Native.Nat.{ℕ, ◌<◌}
 use native.Mathlib.Omega.{arith}
 use mathlib.Core.Path.{◌≡◌, sym, ap, ◌∙◌}
 use mathlib.Core.Option.{Option}
-use mathlib.Core.List.{List, [], ◌∷◌}
+use mathlib.Core.List.{List}
 use lib.ListN.{length, drop, get_or}
 use Rattle.expr.specs.declared.File.TheVariants.{Table, Trace}
 use Rattle.expr.specs.declared.token.Read.{Read}
 use Rattle.expr.specs.declared.token.Read.TheVariants as R
-use Rattle.expr.specs.Token.{Token, Const, Symbol, token_bytes, read_token}
+use Rattle.expr.specs.Token.{Token, Symbol, token_bytes, read_token}
 use Rattle.expr.specs.Shown.{size_of}
 use Rattle.expr.proofs.Reading.{read-size}
-use Rattle.expr.proofs.Steps.{not_nothing, symbol-below}
+use Rattle.expr.proofs.Steps.{symbol-below}
 use Rattle.write.specs.SpliceLaws.{wrote_as}
 use Rattle.unwind.specs.Shown.{current_of, renamed_bytes}
-use Rattle.unwind.proofs.Exprs.{current-at, constant-bytes, symbol-bytes, operator-bytes, token-room}
+use Rattle.unwind.proofs.Exprs.{current-at, symbol-bytes}
 use Rattle.unwind.proofs.tokens.put_token.Goals as goal
 use Rattle.unwind.proofs.tokens.put_token.Goals.{After-size_of-size, Start}
 
@@ -38,9 +38,6 @@ module _ (c : After-size_of-size) where
   size_is : c.size_of-size.result ≡ size_of Table here
   size_is = c.size_of-size.ensures ∙ read-size Table here c.token_here-t.ensures
 
-  constant-is : {w : ℕ} → read ≡ R.Constant w → bytes ≡ token_bytes Trace (Const w)
-  constant-is p = constant-bytes (current_of names) here c.token_here-t.ensures p
-
   inside : {s : ℕ} → read ≡ R.Symbol s → s < length names
   inside p = symbol-below Table (length names) start.args.e.now start.args.i start.requires.1 c.token_here-t.ensures p
 
@@ -48,15 +45,6 @@ module _ (c : After-size_of-size) where
   symbol-is {s} p =
       symbol-bytes (current_of names) here c.token_here-t.ensures p
       ∙ ap (λ n. token_bytes Trace (Symbol n)) (sym (current-at names s (inside p)))
-
-  operator-is : {b : ℕ} → read ≡ R.Operator b → bytes ≡ b ∷ []
-  operator-is p = operator-bytes (current_of names) here c.token_here-t.ensures p
-
-  nothing_is : read ≡ R.Nothing → ⊥
-  nothing_is p = not_nothing Table (length names) start.args.e.now start.args.i start.requires.1 c.token_here-t.ensures p
-
-  room : {bs : List ℕ} → bytes ≡ bs → start.args.at + length bs ≤ length start.args.out.now
-  room q = token-room q start.args.at _ start.requires.2
 
 pub offset_bounds-names-s : goal.offset_bounds-names-s
 offset_bounds-names-s c = omega (arith, inside (goal.at.offset_bounds-names-s c).After-size_of-size c.in-Symbol.is)
@@ -66,5 +54,6 @@ bounds-names-s c = inside (goal.at.bounds-names-s c).After-size_of-size c.in-Sym
 
 pub returns-in-Symbol : goal.returns-in-Symbol
 returns-in-Symbol c =
+    let place = (goal.at.returns-in-Symbol c).After-size_of-size in
     let told = c.in-Symbol.is in
-    (size_is (goal.at.returns-in-Symbol c).After-size_of-size, wrote_as (sym (symbol-is (goal.at.returns-in-Symbol c).After-size_of-size told)) c.put_symbol.ensures)
+    (size_is place, wrote_as (sym (symbol-is place told)) c.put_symbol.ensures)
