@@ -1,93 +1,53 @@
--- The evaluator's loop: the value of the rest of the expression, from the stack that is reached, is the value of the whole.
-use Rattle.std.proofs.Common.{◌≡◌, ℕ, ◌+◌, ◌-◌, ◌<◌, ◌≤◌, Bool, true, false, cond, eqb, List, [], length, get_or, drop, sym, refl, ap, ◌∙◌}
-use Rattle.std.proofs.Common.{ap₂, arith, eqb-true}
+-- The evaluator's loop: the value of the tokens that are left, from the stack that is reached, is the value of the whole.
+use Rattle.std.proofs.Common.{◌≡◌, ℕ, ◌<◌, ◌≤◌, true, List, [], ◌∷◌, length, refl, sym, ap, ◌∙◌, subst, arith}
 use Rattle.expr.specs.declared.File.{File}
-use Rattle.expr.specs.Token.{Token, read_token}
-use Rattle.expr.specs.Expr.{below, pops, Parsed, Whole, Breaks, also, parse_from, parse}
-use Rattle.expr.proofs.ExprLaws.{depth_limit_le, fits-is, end-at}
-use Rattle.expr.specs.Eval.{Env, env_of, step}
-use Rattle.expr.specs.Shown.{popped, turned, goes, is_whole, stack_of, size_of, stepped, Stepped, value_from, value_of}
-use Rattle.expr.proofs.Turns.{Went, whole-goes, whole-went}
+use Rattle.expr.specs.declared.stack.Stack.{Stack}
+use Rattle.expr.specs.Stack.{empty_stack, top_of}
+use Rattle.expr.specs.Token.{Token}
+use Rattle.expr.specs.Expr.{below, depth_limit, Parsed, Whole, Breaks, parse, Ok}
+use Rattle.expr.specs.Eval.{Env, env_of, eval, top}
+use Rattle.expr.specs.Shown.{is_whole, tokens_of, stack_of, held, Stepped, value_of}
+use Rattle.expr.proofs.ExprLaws.{depth_limit_le, Fits, fits-is}
+use Rattle.expr.proofs.Steps.{popped}
+use Rattle.expr.proofs.Walks.{tokens-ok}
 
-whole-also : (t : Token) (p : Parsed) → is_whole (also t p) ≡ is_whole p
-whole-also t (Whole e) = refl
-whole-also t (Breaks bs) = refl
-
-value-also : (ρ : Env) (st : List ℕ) (t : Token) (p : Parsed) → value_from ρ st (also t p) ≡ value_from ρ (step ρ t st) p
-value-also ρ st t (Whole e) = refl
-value-also ρ st t (Breaks bs) = refl
+value-is : (ρ : Env) (p : Parsed) → is_whole p ≡ true → top (eval ρ (tokens_of p) []) ≡ value_of ρ p
+value-is ρ (Whole e) h = refl
+value-is ρ (Breaks bs) h = absurd (let z : ◌≡◌ {A = ℕ} 0 1 = cc in omega arith)
 
 module _ (F : File) (vals e : List ℕ) where
-  abbrev rest : (at depth : ℕ) → Parsed
-  rest at depth = parse_from F (below (length vals)) depth 0 (drop at e)
+  pub record Evaluating (s : Stack) (rest : List Token) : Type 0 where
+    pub ok : Ok (below (length vals)) (depth_limit F) s.depth 1 rest
+    pub deep : s.depth ≤ 17
+    pub long : length s.words ≡ 17
+    pub same : top (eval (env_of vals) rest (held s)) ≡ value_of (env_of vals) (parse F (below (length vals)) e)
 
-  pub record Evaluating (words : List ℕ) (depth at : ℕ) : Type 0 where
-    pub inside : at ≤ length e
-    pub deep : depth ≤ 17
-    pub long : length words ≡ 17
-    pub whole : is_whole (parse_from F (below (length vals)) depth 0 (drop at e)) ≡ true
-    pub same : value_from (env_of vals) (stack_of words depth) (parse_from F (below (length vals)) depth 0 (drop at e))
-        ≡ value_of (env_of vals)
-        (parse F (below (length vals)) e)
+  pub start : (s : Stack) → s ≡ empty_stack → is_whole (parse F (below (length vals)) e) ≡ true
+      → Evaluating s (tokens_of (parse F (below (length vals)) e))
+  unfolding stack_of empty_stack
+  start s q h =
+      subst (λ (t : Stack). Evaluating t (tokens_of (parse F (below (length vals)) e))) (sym q) (record {
+        ok = tokens-ok F (below (length vals)) e h;
+        deep = omega arith;
+        long = refl;
+        same = value-is (env_of vals) (parse F (below (length vals)) e) h;
+      })
 
-  pub start : (words : List ℕ) → length words ≡ 17 → is_whole (parse F (below (length vals)) e) ≡ true → Evaluating words 0 0
-  unfolding stack_of
-  start words l h = record { inside = omega arith; deep = omega arith; long = l; whole = h; same = refl }
+  module _ (s : Stack) where
+    -- the next token may stand where it stands
+    pub fit : (t : Token) (rest : List Token) → Evaluating s (t ∷ rest) → Fits (below (length vals)) (depth_limit F) s.depth t
+    fit t rest v = fits-is (below (length vals)) (depth_limit F) s.depth t v.ok.0
 
-  module _ {words : List ℕ} {depth at : ℕ} (v : Evaluating words depth at) where
-    pub ready : at < length e → goes (turned F (below (length vals)) depth (read_token F (drop at e))) ≡ true
-    ready h = whole-goes F (below (length vals)) depth e at h v.whole
+    pub on : (s' : Stack) (t : Token) (rest : List Token) → Evaluating s (t ∷ rest) → Stepped (env_of vals) t s s' → Evaluating s' rest
+    on s' t rest v k = record {
+      ok = subst (λ d. Ok (below (length vals)) (depth_limit F) d 1 rest) (sym k.deep) v.ok.1;
+      deep = omega (arith, k.deep, (fit t rest v).room, depth_limit_le F);
+      long = k.long ∙ v.long;
+      same = ap (λ st. top (eval (env_of vals) rest st)) k.words ∙ v.same;
+    }
 
-    pub went : at < length e → (d' : ℕ) × (m : ℕ) × Went F (below (length vals)) depth e at d' m
-    went h = whole-went F (below (length vals)) depth e at h v.whole
-
-    pub record Turned (w' : List ℕ) (d m : ℕ) : Type 0 where
-      pub some_byte : 1 ≤ m
-      pub then : Evaluating w' d (at + m)
-
-    pub on : at < length e → (w' : List ℕ) (d m : ℕ) → m ≡ size_of F (read_token F (drop at e))
-        → Stepped (env_of vals) (read_token F (drop at e)) words depth w' d → Turned w' d m
-    on h w' d m q s =
-        let g = went h in
-        let k = g.2 in
-        let t = k.token in
-        let size : m ≡ g.1 = q ∙ ap (size_of F) k.is_read ∙ sym k.size in
-        let pop : popped (read_token F (drop at e)) ≡ pops t = ap popped k.is_read in
-        let deep : d ≡ g.0 = omega (arith, s.deep, k.deep) in
-        let same : rest at depth ≡ also t (rest (at + m) d) = k.same ∙ ap₂ (λ c n. also t (rest (at + n) c)) (sym deep) (sym size) in
-        record {
-          some_byte = omega (arith, k.size);
-          then = record {
-            inside = omega (arith, k.inside);
-            deep = omega (arith, k.deep, (fits-is _ _ _ _ k.fit).room, depth_limit_le F);
-            long = s.long ∙ v.long;
-            whole = sym (whole-also t (rest (at + m) d)) ∙ sym (ap is_whole same) ∙ v.whole;
-            same =
-                ap (λ st. value_from (env_of vals) st (rest (at + m) d))
-                (s.stack ∙ ap (λ o. stepped (env_of vals) o (stack_of words depth)) k.is_read)
-                ∙ sym (value-also (env_of vals) (stack_of words depth) t (rest (at + m) d))
-                ∙ sym (ap (value_from (env_of vals) (stack_of words depth)) same)
-                ∙ v.same;
-          };
-        }
-
-    at-end : length e ≤ at → rest at depth ≡ cond (eqb depth 1) (Whole []) (Breaks [])
-    at-end h = end-at F (below (length vals)) depth e at h
-
-    pub one_word : length e ≤ at → depth ≡ 1
-    one_word h = go (eqb depth 1) refl
-      where
-        go : (x : Bool) → eqb depth 1 ≡ x → depth ≡ 1
-        go true q = eqb-true depth 1 q
-        go false q =
-            absurd (let z = sym v.whole ∙ ap is_whole (at-end h ∙ ap (λ x. cond x (Whole []) (Breaks [])) q) in let y : ◌≡◌ {A = ℕ} 0 1 =
-            cc in omega arith)
-
-    -- the last word is the value
-    pub end : length e ≤ at → get_or words (depth - 1) 0 ≡ value_of (env_of vals) (parse F (below (length vals)) e)
-    unfolding stack_of
-    end h =
-        let one = one_word h in
-        ap (λ d. get_or words (d - 1) 0) one
-        ∙ sym (ap₂ (value_from (env_of vals)) (ap (stack_of words) one) (at-end h ∙ ap (λ d. cond (eqb d 1) (Whole []) (Breaks [])) one))
-        ∙ v.same
+    -- in the end one word is left, the value
+    pub last : Evaluating s [] → (s.depth ≡ 1) × (top_of s ≡ value_of (env_of vals) (parse F (below (length vals)) e))
+    last v =
+        let p = popped s _ _ (let k : 0 < s.depth = let d : s.depth ≡ 1 = v.ok in omega arith in k) refl refl in
+        (v.ok, sym (ap top p.words) ∙ v.same)

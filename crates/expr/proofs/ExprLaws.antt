@@ -4,7 +4,7 @@ use Rattle.std.specs.Prelude.{◌≡◌, ℕ, zero, suc, ◌+◌, ◌-◌, ◌<�
 use Rattle.std.specs.Prelude.{nat_le, nat_lt}
 use Rattle.std.proofs.Common.{arith, sym, ap₂, ◌∙◌, subst, length-drop, take-append-drop, drop_of_length-le, drop_at, drop-drop}
 use Rattle.std.proofs.Math.Path.{refl, ap, fun_ext}
-use Rattle.std.proofs.Math.Option.{Option, none, some}
+use Rattle.std.specs.Prelude.{Option, None, Some}
 use Rattle.std.proofs.Math.Seq.{drop-nil}
 use borrow.Author.Tests.{eqb-true, eq-eqb, leb-true, le-leb}
 use Rattle.expr.specs.declared.File.{File}
@@ -132,24 +132,24 @@ ok-rename may might f k limit d z (t ∷ e) h o =
 pub record Took (F : File) (may : ℕ → Bool) (d : ℕ) (read : Option Token) (rest : ℕ → ℕ → Parsed) (e : List Token) : Type 0 where
   pub token : Token
   pub tail : List Token
-  pub is_read : read ≡ some token
+  pub is_read : read ≡ Some token
   pub fit : fits may (depth_limit F) d token ≡ true
   pub is : e ≡ token ∷ tail
   pub on : rest (after d token) (operand_count F token) ≡ Whole tail
 
 module _ (F : File) (may : ℕ → Bool) (d : ℕ) (here : List ℕ) where
   pub took : (o : Option Token) (rest : ℕ → ℕ → Parsed) (e : List Token) → on_token F may d here o rest ≡ Whole e → Took F may d o rest e
-  took none rest e q = absurd (let z : ◌≡◌ {A = ℕ} 0 1 = cc in omega arith)
-  took (some t) rest e q = go (fits may (depth_limit F) d t) refl (rest (after d t) (operand_count F t)) refl q
+  took None rest e q = absurd (let z : ◌≡◌ {A = ℕ} 0 1 = cc in omega arith)
+  took (Some t) rest e q = go (fits may (depth_limit F) d t) refl (rest (after d t) (operand_count F t)) refl q
     where
       go : (x : Bool) → fits may (depth_limit F) d t ≡ x → (p : Parsed) → rest (after d t) (operand_count F t) ≡ p
-          → cond x (also t p) (Breaks here) ≡ Whole e → Took F may d (some t) rest e
+          → cond x (also t p) (Breaks here) ≡ Whole e → Took F may d (Some t) rest e
       go false f p r q = absurd (let z : ◌≡◌ {A = ℕ} 0 1 = cc in omega arith)
       go true f (Breaks bs) r q = absurd (let z : ◌≡◌ {A = ℕ} 0 1 = cc in omega arith)
       go true f (Whole u) r q = record { token = t; tail = u; is_read = refl; fit = f; is = (let k : e ≡ t ∷ u = cc in k); on = r }
 
   pub on-token : (t : Token) (rest : ℕ → ℕ → Parsed) → fits may (depth_limit F) d t ≡ true
-      → on_token F may d here (some t) rest ≡ also t (rest (after d t) (operand_count F t))
+      → on_token F may d here (Some t) rest ≡ also t (rest (after d t) (operand_count F t))
   on-token t rest f = ap (λ x. cond x (also t (rest (after d t) (operand_count F t))) (Breaks here)) f
 
 module _ (F : File) (may : ℕ → Bool) where
@@ -233,8 +233,8 @@ breaks-inside F may d zero (b ∷ bs) rest h = go (read_token F (b ∷ bs)) h (�
 
     go : (o : Option Token) → on_token F may d (b ∷ bs) o (λ c m. parse_from F may c m bs) ≡ Breaks rest
         → ((c m : ℕ) → parse_from F may c m bs ≡ Breaks rest → length rest ≤ length bs) → length rest ≤ suc (length bs)
-    go none h ih = let e : rest ≡ b ∷ bs = cc in omega (arith, ap length e)
-    go (some t) h ih =
+    go None h ih = let e : rest ≡ b ∷ bs = cc in omega (arith, ap length e)
+    go (Some t) h ih =
         on t (fits may (depth_limit F) d t) (parse_from F may (after d t) (operand_count F t) bs) h (ih (after d t) (operand_count F t))
 
 -- where more may be read, what was accepted is accepted

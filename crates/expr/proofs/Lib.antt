@@ -1,8 +1,7 @@
 pub mod Reading
-pub mod Turns
+pub mod Checks
+pub mod Walks
 pub mod Steps
-pub mod Operands
 pub mod Evals
-pub mod Rests
 pub mod ExprLaws
 pub mod EvalLaws

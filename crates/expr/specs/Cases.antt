@@ -1,6 +1,6 @@
 -- Document 01's marked cases of the operators, and the check on small expressions: computed.
 use Rattle.std.specs.Prelude.{◌≡◌, ℕ, zero, suc, List, [], ◌∷◌, map, length, replicate, refl}
-use Rattle.std.proofs.Math.Option.{none, some}
+use Rattle.std.specs.Prelude.{None, Some}
 use Rattle.expr.specs.declared.File.TheVariants.{Table, Trace}
 use Rattle.expr.specs.Word.{Not, Neg, Zero, Add, Sub, Mul, Udiv, Urem, And, Or, Xor, Shl, Lshr, Equal, Ult, Ule, Slt}
 use Rattle.expr.specs.Word.{signed, unary, binary, choice}
@@ -145,23 +145,23 @@ wide-ite = (refl, refl, refl)
 -- document 01's list of tokens, code after code, and the codes beside them
 codes : map operator (0x10 ∷ 0x11 ∷ 0x12 ∷ 0x20 ∷ 0x21 ∷ 0x22 ∷ 0x23 ∷ 0x24 ∷ 0x25 ∷ 0x26 ∷ 0x27 ∷ 0x28 ∷ 0x29 ∷ 0x2A ∷ 0x2B ∷ 0x2D ∷ 0x2C
     ∷ 0x30 ∷ [])
-    ≡ map some (Un Not ∷ Un Neg ∷ Un Zero ∷ Bin Add ∷ Bin Sub ∷ Bin Mul ∷ Bin Udiv ∷ Bin Urem ∷ Bin And ∷ Bin Or ∷ Bin Xor ∷ Bin Shl
+    ≡ map Some (Un Not ∷ Un Neg ∷ Un Zero ∷ Bin Add ∷ Bin Sub ∷ Bin Mul ∷ Bin Udiv ∷ Bin Urem ∷ Bin And ∷ Bin Or ∷ Bin Xor ∷ Bin Shl
     ∷ Bin Lshr ∷ Bin Equal ∷ Bin Ult
     ∷ Bin Ule ∷ Bin Slt ∷ Ite ∷ [])
 unfolding operator
 codes = refl
 
-no_codes : map operator (0x00 ∷ 0x01 ∷ 0x02 ∷ 0x03 ∷ 0x0F ∷ 0x13 ∷ 0x1F ∷ 0x2E ∷ 0x2F ∷ 0x31 ∷ 0xFF ∷ []) ≡ none ∷ none ∷ none ∷ none
-    ∷ none ∷ none ∷ none ∷ none ∷ none ∷ none ∷ none ∷ []
+no_codes : map operator (0x00 ∷ 0x01 ∷ 0x02 ∷ 0x03 ∷ 0x0F ∷ 0x13 ∷ 0x1F ∷ 0x2E ∷ 0x2F ∷ 0x31 ∷ 0xFF ∷ []) ≡ None ∷ None ∷ None ∷ None
+    ∷ None ∷ None ∷ None ∷ None ∷ None ∷ None ∷ None ∷ []
 unfolding operator
 no_codes = refl
 
 -- constants have four bytes, a table's symbols one, a trace's two, the highest first; neither file has the other's symbols
-operands : (read_token Table (0x01 ∷ 0x01 ∷ 0x02 ∷ 0x03 ∷ 0x04 ∷ []) ≡ some (Const 16909060))
-    × (read_token Table (0x02 ∷ 0x05 ∷ 0x06 ∷ []) ≡ some (Symbol 5))
-    × (read_token Trace (0x03 ∷ 0x05 ∷ 0x06 ∷ []) ≡ some (Symbol 1286)) × (read_token Table (0x03 ∷ 0x05 ∷ 0x06 ∷ []) ≡ none)
-    × (read_token Trace (0x02 ∷ 0x05 ∷ 0x06 ∷ []) ≡ none)
-    × (read_token Trace (0x03 ∷ 0x05 ∷ []) ≡ none)
+operands : (read_token Table (0x01 ∷ 0x01 ∷ 0x02 ∷ 0x03 ∷ 0x04 ∷ []) ≡ Some (Const 16909060))
+    × (read_token Table (0x02 ∷ 0x05 ∷ 0x06 ∷ []) ≡ Some (Symbol 5))
+    × (read_token Trace (0x03 ∷ 0x05 ∷ 0x06 ∷ []) ≡ Some (Symbol 1286)) × (read_token Table (0x03 ∷ 0x05 ∷ 0x06 ∷ []) ≡ None)
+    × (read_token Trace (0x02 ∷ 0x05 ∷ 0x06 ∷ []) ≡ None)
+    × (read_token Trace (0x03 ∷ 0x05 ∷ []) ≡ None)
 unfolding read_token operator
 operands = (refl, refl, refl, refl, refl, refl)
 

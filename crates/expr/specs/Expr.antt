@@ -1,7 +1,6 @@
 -- Document 01, "Table and trace bytes": which bytes are an expression.
 use Rattle.std.specs.Prelude.{◌≡◌, ℕ, zero, suc, ◌-◌, Bool, true, false, cond, ◌&&◌, ◌||◌, List, [], ◌∷◌, ◌==◌, nat_le, nat_lt}
-use Rattle.std.specs.Prelude.{slice_index_or}
-use Rattle.std.proofs.Math.Option.{Option, none, some}
+use Rattle.std.specs.Prelude.{slice_index_or, Option, None, Some}
 use Rattle.expr.specs.declared.File.{File}
 use Rattle.expr.specs.declared.File.TheVariants.{Table, Trace}
 use Rattle.expr.specs.Token.{Token, Const, Symbol, Un, Bin, Ite, operand_count, read_token}
@@ -53,8 +52,8 @@ also t (Whole e) = Whole (t ∷ e)
 also t (Breaks bs) = Breaks bs
 
 abbrev pub on_token : (F : File) (may : ℕ → Bool) (d : ℕ) (here : List ℕ) → Option Token → ((depth skip : ℕ) → Parsed) → Parsed
-on_token F may d here none rest = Breaks here
-on_token F may d here (some t) rest =
+on_token F may d here None rest = Breaks here
+on_token F may d here (Some t) rest =
     cond (fits may (depth_limit F) d t) (also t (rest (after d t) (operand_count F t))) (Breaks here)
 
 -- from d words on; the first `skip` bytes are operands of the token before

@@ -1,17 +1,12 @@
 -- Document 01, "Arithmetic": the tokens and their bytes.
-use Rattle.std.specs.Prelude.{ℕ, cond, List, [], ◌∷◌, ◌++◌, length, ◌==◌, nat_le}
-use Rattle.std.proofs.Math.Option.{Option, none, some}
+use Rattle.std.specs.Prelude.{ℕ, cond, List, [], ◌∷◌, ◌++◌, length, ◌==◌, nat_le, Option, None, Some}
 use Rattle.expr.specs.declared.File.{File}
 use Rattle.expr.specs.declared.File.TheVariants.{Table, Trace}
 use Rattle.expr.specs.Word.{Unary, Not, Neg, Zero, Binary, Add, Sub, Mul, Udiv, Urem, And, Or, Xor, Shl, Lshr, Equal, Ult, Ule, Slt}
 use Rattle.expr.specs.Number.{number_of, bytes_of}
-
-pub data Token : Type 0 where
-  Const : (word : ℕ) → Token
-  Symbol : (number : ℕ) → Token
-  Un : Unary → Token
-  Bin : Binary → Token
-  Ite : Token
+-- a constant with its word, a symbol with its number, or an operator: the code's type
+pub use Rattle.expr.specs.declared.token.Token.{Token}
+pub use Rattle.expr.specs.declared.token.Token.TheVariants.{Const, Symbol, Un, Bin, Ite}
 
 -- a symbol's byte: one form in tables only, one in traces only
 abbrev pub symbol_code : File → ℕ
@@ -88,19 +83,19 @@ operators =
 
 -- the one of these tokens that has the code b, which is the same in both kinds of file
 abbrev pub coded : (b : ℕ) → List Token → Option Token
-coded b [] = none
-coded b (t ∷ ts) = cond (b == code Table t) (some t) (coded b ts)
+coded b [] = None
+coded b (t ∷ ts) = cond (b == code Table t) (Some t) (coded b ts)
 
 unfoldable pub operator : (b : ℕ) → Option Token
 operator b = coded b operators
 
 -- a token with a number of k bytes, where all of them are there
 abbrev pub operand : (k : ℕ) → (ℕ → Token) → List ℕ → Option Token
-operand k token bs = cond (nat_le k (length bs)) (some (token (number_of k bs))) none
+operand k token bs = cond (nat_le k (length bs)) (Some (token (number_of k bs))) None
 
 -- the token at the front of a list of bytes
 unfoldable pub read_token : File → List ℕ → Option Token
-read_token F [] = none
+read_token F [] = None
 read_token F (b ∷ bs) =
     cond (b == 0x01) (operand 4 Const bs)
     (cond (b == symbol_code F) (operand (symbol_width F) Symbol bs) (operator b))

@@ -2,7 +2,7 @@
 use Rattle.std.specs.Prelude.{◌≡◌, ℕ, zero, suc, ◌^◌, ◌<◌, ◌≤◌, Bool, true, false, cond, List, [], ◌∷◌, ◌++◌, length, take, ◌==◌, nat_le}
 use Rattle.std.proofs.Common.{arith, sym, ap, ap₂, ◌∙◌, subst, append_assoc, length-append, eqb-true, ne_eqb, le-leb, leb-true}
 use Rattle.std.proofs.Math.Path.{refl}
-use Rattle.std.proofs.Math.Option.{Option, none, some}
+use Rattle.std.specs.Prelude.{Option, None, Some}
 use Rattle.expr.specs.declared.File.{File}
 use Rattle.expr.specs.declared.File.TheVariants.{Table, Trace}
 use Rattle.expr.specs.Lists.{All}
@@ -34,14 +34,14 @@ symbol_width_le Trace = omega arith
 -- ---- written, then read
 
 operand-written : (k : ℕ) (token : ℕ → Token) (n : ℕ) (rest : List ℕ) → n < 256 ^ k → operand k token (bytes_of k n ++ rest)
-    ≡ some (token n)
+    ≡ Some (token n)
 operand-written k token n rest h =
-    ap (λ b. cond b (some (token (number_of k (bytes_of k n ++ rest)))) none)
+    ap (λ b. cond b (Some (token (number_of k (bytes_of k n ++ rest)))) None)
     (le-leb k _ (omega (arith, length-append (bytes_of k n) rest, bytes_of-length k n)))
-    ∙ ap {B = Option Token} (λ x. some (token x)) (number-written k n rest h)
+    ∙ ap {B = Option Token} (λ x. Some (token x)) (number-written k n rest h)
 
 -- no operator has the code of a constant or a symbol
-operator_high : (b : ℕ) (t : Token) → operator b ≡ some t → 3 < b
+operator_high : (b : ℕ) (t : Token) → operator b ≡ Some t → 3 < b
 unfolding operator
 operator_high zero t h = absurd (let z : ◌≡◌ {A = ℕ} 0 1 = cc in omega arith)
 operator_high (suc zero) t h = absurd (let z : ◌≡◌ {A = ℕ} 0 1 = cc in omega arith)
@@ -53,19 +53,19 @@ symbol_code-low : (F : File) → symbol_code F ≤ 3
 symbol_code-low Table = omega arith
 symbol_code-low Trace = omega arith
 
-pub operator-read : (F : File) (b : ℕ) (t : Token) (rest : List ℕ) → operator b ≡ some t → read_token F (b ∷ rest) ≡ some t
+pub operator-read : (F : File) (b : ℕ) (t : Token) (rest : List ℕ) → operator b ≡ Some t → read_token F (b ∷ rest) ≡ Some t
 unfolding read_token
 operator-read F b t rest h =
     let l : 3 < b = operator_high b t h in
     rw (ne_eqb b 1 (λ e. omega arith), ne_eqb b (symbol_code F) (λ e. omega (arith, symbol_code-low F))) h
 
-pub operator-unary : (o : Unary) → operator (unary_code o) ≡ some (Un o)
+pub operator-unary : (o : Unary) → operator (unary_code o) ≡ Some (Un o)
 unfolding operator
 operator-unary Not = refl
 operator-unary Neg = refl
 operator-unary Zero = refl
 
-pub operator-binary : (o : Binary) → operator (binary_code o) ≡ some (Bin o)
+pub operator-binary : (o : Binary) → operator (binary_code o) ≡ Some (Bin o)
 unfolding operator
 operator-binary Add = refl
 operator-binary Sub = refl
@@ -82,11 +82,11 @@ operator-binary Ult = refl
 operator-binary Ule = refl
 operator-binary Slt = refl
 
-pub operator-ite : operator 0x30 ≡ some Ite
+pub operator-ite : operator 0x30 ≡ Some Ite
 unfolding operator
 operator-ite = refl
 
-pub token-written : (F : File) (t : Token) (rest : List ℕ) → Holds F t → read_token F (token_bytes F t ++ rest) ≡ some t
+pub token-written : (F : File) (t : Token) (rest : List ℕ) → Holds F t → read_token F (token_bytes F t ++ rest) ≡ Some t
 unfolding read_token
 token-written F (Const n) rest h = operand-written 4 Const n rest h
 token-written Table (Symbol s) rest h = operand-written 1 Symbol s rest h
@@ -105,7 +105,7 @@ IsOperator (Bin o) = Unit {0}
 IsOperator Ite = Unit {0}
 
 -- every operator is read by its code
-pub operator-coded : (t : Token) → IsOperator t → operator (code Table t) ≡ some t
+pub operator-coded : (t : Token) → IsOperator t → operator (code Table t) ≡ Some t
 operator-coded (Const n) o = absurd o
 operator-coded (Symbol s) o = absurd o
 operator-coded (Un u) o = operator-unary u
@@ -115,16 +115,16 @@ operator-coded Ite o = operator-ite
 all-operators : All IsOperator operators
 all-operators = (tt, (tt, (tt, (tt, (tt, (tt, (tt, (tt, (tt, (tt, (tt, (tt, (tt, (tt, (tt, (tt, (tt, (tt, tt))))))))))))))))))
 
-coded-is : (b : ℕ) (t : Token) (ts : List Token) → All IsOperator ts → coded b ts ≡ some t → (b ≡ code Table t) × IsOperator t
+coded-is : (b : ℕ) (t : Token) (ts : List Token) → All IsOperator ts → coded b ts ≡ Some t → (b ≡ code Table t) × IsOperator t
 coded-is b t [] o h = absurd (let z : ◌≡◌ {A = ℕ} 0 1 = cc in omega arith)
 coded-is b t (u ∷ ts) o h = go (b == code Table u) refl h (coded-is b t ts o.1)
   where
-    go : (x : Bool) → (b == code Table u) ≡ x → cond x (some u) (coded b ts) ≡ some t
-        → (coded b ts ≡ some t → (b ≡ code Table t) × IsOperator t) → (b ≡ code Table t) × IsOperator t
+    go : (x : Bool) → (b == code Table u) ≡ x → cond x (Some u) (coded b ts) ≡ Some t
+        → (coded b ts ≡ Some t → (b ≡ code Table t) × IsOperator t) → (b ≡ code Table t) × IsOperator t
     go true e h rest = let p : u ≡ t = cc in subst (λ v. (b ≡ code Table v) × IsOperator v) p (eqb-true b (code Table u) e, o.0)
     go false e h rest = rest h
 
-pub operator-is : (b : ℕ) (t : Token) → operator b ≡ some t → (b ≡ code Table t) × IsOperator t
+pub operator-is : (b : ℕ) (t : Token) → operator b ≡ Some t → (b ≡ code Table t) × IsOperator t
 unfolding operator
 operator-is b t h = coded-is b t operators all-operators h
 
@@ -150,16 +150,16 @@ module _ (F : File) (b : ℕ) (bs : List ℕ) where
 
   -- the case of a token with a number of k bytes
   module _ (k : ℕ) (token : ℕ → Token) (t : Token) where
-    operand-is : operand k token bs ≡ some t → (k ≤ length bs) × (token (number_of k bs) ≡ t)
+    operand-is : operand k token bs ≡ Some t → (k ≤ length bs) × (token (number_of k bs) ≡ t)
     operand-is h = go (nat_le k (length bs)) refl h
       where
-        go : (x : Bool) → nat_le k (length bs) ≡ x → cond x (some (token (number_of k bs))) none ≡ some t
+        go : (x : Bool) → nat_le k (length bs) ≡ x → cond x (Some (token (number_of k bs))) None ≡ Some t
             → (k ≤ length bs) × (token (number_of k bs) ≡ t)
         go true e h = (leb-true k (length bs) e, (cc))
         go false e h = absurd (let z : ◌≡◌ {A = ℕ} 0 1 = cc in omega arith)
 
   -- what reading a token comes to, in its three cases
-  read_cases {ℓ} : {C : Type ℓ} (t : Token) → read_token F (b ∷ bs) ≡ some t
+  read_cases {ℓ} : {C : Type ℓ} (t : Token) → read_token F (b ∷ bs) ≡ Some t
       → (b ≡ 1 → 4 ≤ length bs → Const (number_of 4 bs) ≡ t → C)
       → (b ≡ symbol_code F → symbol_width F ≤ length bs → Symbol (number_of (symbol_width F) bs) ≡ t → C)
       → (b ≡ code Table t → IsOperator t → C) → C
@@ -167,18 +167,18 @@ module _ (F : File) (b : ℕ) (bs : List ℕ) where
   read_cases {C = C} t h constant symbol op = go (b == 1) refl (b == symbol_code F) refl h
     where
       go : (x : Bool) → (b == 1) ≡ x → (y : Bool) → (b == symbol_code F) ≡ y
-          → cond x (operand 4 Const bs) (cond y (operand (symbol_width F) Symbol bs) (operator b)) ≡ some t → C
+          → cond x (operand 4 Const bs) (cond y (operand (symbol_width F) Symbol bs) (operator b)) ≡ Some t → C
       go true e y f h = let o = operand-is 4 Const t h in constant (eqb-true b 1 e) o.0 o.1
       go false e true f h = let o = operand-is (symbol_width F) Symbol t h in symbol (eqb-true b (symbol_code F) f) o.0 o.1
       go false e false f h = let c = operator-is b t h in op c.0 c.1
 
   -- the operands of a token that is read are there
-  pub token-there : (t : Token) → read_token F (b ∷ bs) ≡ some t → operand_count F t ≤ length bs
+  pub token-there : (t : Token) → read_token F (b ∷ bs) ≡ Some t → operand_count F t ≤ length bs
   token-there t h =
       read_cases t h (λ e l q. subst (λ u. operand_count F u ≤ length bs) q l) (λ e l q. subst (λ u. operand_count F u ≤ length bs) q l)
       (λ e o. omega (arith, operator-count F t o))
 
-  pub token-stands : (t : Token) → All Byte bs → read_token F (b ∷ bs) ≡ some t → Stands F (b ∷ bs) t
+  pub token-stands : (t : Token) → All Byte bs → read_token F (b ∷ bs) ≡ Some t → Stands F (b ∷ bs) t
   token-stands t o h =
       read_cases t h
       (λ e l q. subst (Stands F (b ∷ bs)) q (record {

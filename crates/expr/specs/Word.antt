@@ -3,12 +3,11 @@
 use Rattle.std.specs.Prelude.{ℕ, ◌+◌, ◌-◌, ◌*◌, ◌/◌, ◌%◌, ◌^◌, ◌<◌, Bool, true, false, cond, not, ℤ, pos, ◌==◌, bit_and, bit_or, bit_xor}
 use Rattle.std.specs.Prelude.{int_lt, nat_le, nat_lt}
 use Rattle.std.proofs.Math.IntN.{sub_ℕ}
-
-pub data Unary : Type 0 where
-  Not Neg Zero : Unary
-
-pub data Binary : Type 0 where
-  Add Sub Mul Udiv Urem And Or Xor Shl Lshr Equal Ult Ule Slt : Binary
+-- the operators, which are the code's types
+pub use Rattle.expr.specs.declared.word.Unary.{Unary}
+pub use Rattle.expr.specs.declared.word.Unary.TheVariants.{Not, Neg, Zero}
+pub use Rattle.expr.specs.declared.word.Binary.{Binary}
+pub use Rattle.expr.specs.declared.word.Binary.TheVariants.{Add, Sub, Mul, Udiv, Urem, And, Or, Xor, Shl, Lshr, Equal, Ult, Ule, Slt}
 
 -- a word of 32 bits
 abbrev pub Word : ℕ → Type 0

@@ -1,100 +1,72 @@
 // Which bytes are an expression.
-ghost use Rattle.std.specs.Prelude.{◌≡◌, ◌<◌, ◌≤◌, length, drop};
-ghost use Rattle.expr.specs.Token.{read_token};
-ghost use Rattle.expr.specs.Expr.{depth_limit, readable, parse};
-ghost use Rattle.expr.specs.Shown.{turned, checked};
+ghost use Rattle.std.specs.Prelude.{◌≡◌, ◌≤◌, length};
+ghost use Rattle.expr.specs.Expr.{depth_limit, reads_only, readable, parse};
+ghost use Rattle.expr.specs.Shown.{left_by, checked};
 
-use super::token::Read;
-use super::{File, reader, token};
+use super::token::Token;
+use super::{File, token};
 
-// The answer: an expression, or the offset of the first token at which it breaks its rules. That is the end where its tokens leave
-// other than one word.
-#[derive(Clone, Copy)]
-pub enum Checked {
-    Fine,
-    Broken(usize),
-}
-
-// One token: it may not stand there, or it leaves this depth and takes so many bytes.
-#[derive(Clone, Copy)]
-enum After {
-    Stop,
-    Next(usize, usize),
-}
-
-fn depth_limit(file: File) -> usize
-    ensures { result ≡ depth_limit file }
-{
-    match file {
-        File::Table => 16,
-        File::Trace => 17,
+impl File {
+    // The words that an expression may hold at most.
+    fn depth_limit(self) -> usize
+        ensures { result ≡ depth_limit self }
+    {
+        match self {
+            File::Table => 16,
+            File::Trace => 17,
+        }
     }
 }
 
 fn may_read(symbol: usize, inputs: usize, assigned: &[bool]) -> bool
     ensures { result ≡ readable inputs assigned.now symbol }
 {
-    if symbol < inputs {
-        return true;
-    }
-    if symbol < assigned.len() {
-        return assigned[symbol];
-    }
-    false
+    symbol < inputs || (symbol < assigned.len() && assigned[symbol])
 }
 
-fn turn(e: &[u8], at: usize, file: File, inputs: usize, assigned: &[bool], depth: usize) -> After
-    requires { (at < length e.now) × (depth ≤ depth_limit file) }
-    ensures { result ≡ turned file (readable inputs assigned.now) depth (read_token file (drop at e.now)) }
+// Whether a token reads only what may be read.
+fn reads_only(t: Token, inputs: usize, assigned: &[bool]) -> bool
+    ensures { result ≡ reads_only (readable inputs assigned.now) t }
 {
-    let limit = depth_limit(file);
-    let t = reader::read_token(e, at, file);
     match t {
-        Read::Nothing => After::Stop,
-        Read::Constant(_) => {
-            if depth < limit {
-                return After::Next(depth + 1, 5);
-            }
-            After::Stop
-        }
-        Read::Symbol(symbol) => {
-            if depth < limit {
-                if may_read(symbol, inputs, assigned) {
-                    return After::Next(depth + 1, token::symbol_width(file) + 1);
-                }
-            }
-            After::Stop
-        }
-        Read::Operator(code) => {
-            let pops = token::pops(code);
-            if pops <= depth {
-                return After::Next(depth - pops + 1, 1);
-            }
-            After::Stop
-        }
+        Token::Symbol(symbol) => may_read(symbol, inputs, assigned),
+        _ => true,
     }
 }
 
-// An expression reads inputs, which are below `inputs`, and symbols whose entry in `assigned` is set.
-pub fn check_expr(e: &[u8], file: File, inputs: usize, assigned: &[bool]) -> Checked
+// The depth that a token leaves, if it may stand where so many words are held.
+#[tactic(auto, unfolding(crate::specs::Expr::fits))]
+fn left_by(t: Token, file: File, inputs: usize, assigned: &[bool], depth: usize) -> Option<usize>
+    requires { depth ≤ depth_limit file }
+    ensures { result ≡ left_by (readable inputs assigned.now) (depth_limit file) depth t }
+{
+    let pops = t.pops();
+    if depth < pops {
+        return None;
+    }
+    let deep = depth - pops + 1;
+    if deep <= file.depth_limit() && reads_only(t, inputs, assigned) {
+        return Some(deep);
+    }
+    None
+}
+
+// An expression reads inputs, which are below `inputs`, and symbols whose entry in `assigned` is set. What is no expression is refused at
+// the offset of the first token that breaks its rules: the end, where its tokens leave other than one word.
+pub fn check_expr(e: &[u8], file: File, inputs: usize, assigned: &[bool]) -> Result<(), usize>
     ensures { result ≡ checked (length e.now) (parse file (readable inputs assigned.now) e.now) }
 {
     let mut at: usize = 0;
     let mut depth: usize = 0;
     while at < e.len() {
-        let t = turn(e, at, file, inputs, assigned, depth);
-        match t {
-            After::Stop => {
-                return Checked::Broken(at);
-            }
-            After::Next(deep, size) => {
-                depth = deep;
-                at += size;
-            }
-        }
+        let Some(t) = token::token_at(e, at, file) else {
+            return Err(at);
+        };
+        let Some(deep) = left_by(t, file, inputs, assigned, depth) else {
+            return Err(at);
+        };
+        depth = deep;
+        at += t.size(file);
     }
-    if depth == 1 {
-        return Checked::Fine;
-    }
-    Checked::Broken(at)
+    if depth == 1 { Ok(()) } else { Err(at) }
 }

@@ -5,7 +5,6 @@
 pub mod accept;
 pub mod eval;
 pub mod number;
-pub mod reader;
 pub mod stack;
 pub mod token;
 pub mod word;

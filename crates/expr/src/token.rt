@@ -1,42 +1,124 @@
 // Tokens, read from the bytes of an expression.
 ghost use Rattle.std.specs.Prelude.{◌≡◌, ◌+◌, ◌<◌, ◌≤◌, length, drop};
+ghost use Rattle.std.specs.Iterator.{YieldsFirst, item_count};
 ghost use Rattle.expr.specs.Number.{number_of};
-ghost use Rattle.expr.specs.Token.{symbol_code, symbol_width, read_token};
-ghost use Rattle.expr.specs.Shown.{shown_token, read_size, pops_of, size_of};
+ghost use Rattle.expr.specs.Token.{symbol_code, symbol_width, unary_code, binary_code, operand_count, operator, read_token};
+ghost use Rattle.expr.specs.Expr.{pops};
+ghost use Rattle.expr.specs.Shown.{tokens_left};
 
+use super::word::{Binary, Unary};
 use super::{File, number};
 
-// What stands at a place of an expression: nothing that the file may hold, a constant, a symbol, or an operator by its code.
+// A constant, a symbol, or an operator.
 #[derive(Clone, Copy)]
-pub enum Read {
-    Nothing,
-    Constant(u32),
+pub enum Token {
+    Const(u32),
     Symbol(usize),
-    Operator(u8),
+    Un(Unary),
+    Bin(Binary),
+    Ite,
 }
 
-// The first bytes of a constant and of a symbol in each kind of file.
+// The first bytes of a constant, of a symbol in each kind of file, and of the choice.
 pub const CONSTANT: u8 = 0x01;
 
 pub const TABLE_SYMBOL: u8 = 0x02;
 
 pub const TRACE_SYMBOL: u8 = 0x03;
 
-pub fn symbol_code(file: File) -> u8
-    ensures { result ≡ symbol_code file }
-{
-    match file {
-        File::Table => TABLE_SYMBOL,
-        File::Trace => TRACE_SYMBOL,
+pub const ITE: u8 = 0x30;
+
+impl File {
+    // A symbol's first byte.
+    pub fn symbol_code(self) -> u8
+        ensures { result ≡ symbol_code self }
+    {
+        match self {
+            File::Table => TABLE_SYMBOL,
+            File::Trace => TRACE_SYMBOL,
+        }
+    }
+
+    // The bytes of its number.
+    pub fn symbol_width(self) -> usize
+        ensures { result ≡ symbol_width self }
+    {
+        match self {
+            File::Table => 1,
+            File::Trace => 2,
+        }
     }
 }
 
-pub fn symbol_width(file: File) -> usize
-    ensures { result ≡ symbol_width file }
-{
-    match file {
-        File::Table => 1,
-        File::Trace => 2,
+impl Token {
+    // The operator that has this code.
+    #[tactic(auto, unfolding(crate::specs::Token::operator))]
+    pub fn operator(code: u8) -> Option<Token>
+        ensures { result ≡ operator code }
+    {
+        match code {
+            0x10 => Some(Token::Un(Unary::Not)),
+            0x11 => Some(Token::Un(Unary::Neg)),
+            0x12 => Some(Token::Un(Unary::Zero)),
+            0x20 => Some(Token::Bin(Binary::Add)),
+            0x21 => Some(Token::Bin(Binary::Sub)),
+            0x22 => Some(Token::Bin(Binary::Mul)),
+            0x23 => Some(Token::Bin(Binary::Udiv)),
+            0x24 => Some(Token::Bin(Binary::Urem)),
+            0x25 => Some(Token::Bin(Binary::And)),
+            0x26 => Some(Token::Bin(Binary::Or)),
+            0x27 => Some(Token::Bin(Binary::Xor)),
+            0x28 => Some(Token::Bin(Binary::Shl)),
+            0x29 => Some(Token::Bin(Binary::Lshr)),
+            0x2A => Some(Token::Bin(Binary::Equal)),
+            0x2B => Some(Token::Bin(Binary::Ult)),
+            0x2C => Some(Token::Bin(Binary::Slt)),
+            0x2D => Some(Token::Bin(Binary::Ule)),
+            ITE => Some(Token::Ite),
+            _ => None,
+        }
+    }
+
+    // How many words it pops.
+    pub fn pops(self) -> usize
+        ensures { result ≡ pops self }
+    {
+        match self {
+            Token::Const(_) => 0,
+            Token::Symbol(_) => 0,
+            Token::Un(_) => 1,
+            Token::Bin(_) => 2,
+            Token::Ite => 3,
+        }
+    }
+
+    // The bytes that it has in a kind of file.
+    pub fn size(self, file: File) -> usize
+        ensures { result ≡ 1 + operand_count file self }
+    {
+        match self {
+            Token::Const(_) => 5,
+            Token::Symbol(_) => 1 + file.symbol_width(),
+            Token::Un(_) => 1,
+            Token::Bin(_) => 1,
+            Token::Ite => 1,
+        }
+    }
+}
+
+impl Unary {
+    pub fn code(self) -> u8
+        ensures { result ≡ unary_code self }
+    {
+        self as u8
+    }
+}
+
+impl Binary {
+    pub fn code(self) -> u8
+        ensures { result ≡ binary_code self }
+    {
+        self as u8
     }
 }
 
@@ -51,66 +133,58 @@ pub fn symbol_at(e: &[u8], at: usize, file: File) -> usize
     }
 }
 
-// How many words an operator pops; 0 where no operator has this code.
-pub fn pops(code: u8) -> usize
-    ensures { result ≡ pops_of code }
-{
-    match code {
-        0x10..=0x12 => 1,
-        0x20..=0x2D => 2,
-        0x30 => 3,
-        _ => 0,
-    }
-}
-
 // The token at a place, with all its operands.
-pub fn token_at(e: &[u8], at: usize, file: File) -> Read
+pub fn token_at(e: &[u8], at: usize, file: File) -> Option<Token>
     requires { at < length e.now }
-    ensures { result ≡ shown_token (read_token file (drop at e.now)) }
+    ensures { result ≡ read_token file (drop at e.now) }
 {
     let left = e.len() - at - 1;
     let code = e[at];
     if code == CONSTANT {
         if left < 4 {
-            return Read::Nothing;
+            return None;
         }
-        return Read::Constant(number::word_at(e, at + 1));
+        return Some(Token::Const(number::word_at(e, at + 1)));
     }
-    if code == symbol_code(file) {
-        if left < symbol_width(file) {
-            return Read::Nothing;
+    if code == file.symbol_code() {
+        if left < file.symbol_width() {
+            return None;
         }
-        return Read::Symbol(symbol_at(e, at + 1, file));
+        return Some(Token::Symbol(symbol_at(e, at + 1, file)));
     }
-    if pops(code) == 0 {
-        return Read::Nothing;
-    }
-    Read::Operator(code)
+    Token::operator(code)
 }
 
-// The token at a place of an expression that was checked: nothing is asked about the bytes that are left.
-pub fn token_here(e: &[u8], at: usize, file: File) -> Read
-    requires { (at < length e.now) × (0 < size_of file (read_token file (drop at e.now))) }
-    ensures { result ≡ shown_token (read_token file (drop at e.now)) }
-{
-    let code = e[at];
-    if code == CONSTANT {
-        return Read::Constant(number::word_at(e, at + 1));
-    }
-    if code == symbol_code(file) {
-        return Read::Symbol(symbol_at(e, at + 1, file));
-    }
-    Read::Operator(code)
+// The tokens of an expression, one after the other, up to the first place where none stands.
+#[derive(Clone, Copy)]
+pub struct Tokens<'a> {
+    pub rest: &'a [u8],
+    pub file: File,
 }
 
-// The bytes that a token has in a kind of file.
-pub fn size_of(t: Read, file: File) -> usize
-    ensures { result ≡ read_size file t }
-{
-    match t {
-        Read::Nothing => 0,
-        Read::Constant(_) => 5,
-        Read::Symbol(_) => symbol_width(file) + 1,
-        Read::Operator(_) => 1,
+impl<'a> Tokens<'a> {
+    pub fn new(rest: &'a [u8], file: File) -> Tokens<'a>
+        ensures rest { result.rest ≡ rest.entry }
+        ensures file { result.file ≡ file }
+    {
+        Tokens { rest, file }
+    }
+}
+
+impl<'a> Iterator for Tokens<'a> {
+    type Item = Token;
+
+    ghost next_gives = { YieldsFirst tokens_left };
+
+    ghost remaining = { item_count tokens_left };
+
+    fn next(&mut self) -> Option<Token> {
+        if self.rest.is_empty() {
+            return None;
+        }
+        let t = token_at(self.rest, 0, self.file)?;
+        let (_, rest) = self.rest.split_at(t.size(self.file));
+        self.rest = rest;
+        Some(t)
     }
 }

@@ -1,7 +1,68 @@
-// Arithmetic on 32-bit words: one function for each operator.
+// Arithmetic on 32-bit words: one function for each operator, and the operators by kind, each with the code that stands for it in a file.
 ghost use Rattle.std.specs.Prelude.{◌≡◌};
 ghost use Rattle.expr.specs.Word.{unary, binary, choice, Not, Neg, Zero, Add, Sub, Mul, Udiv, Urem, And, Or, Xor, Shl, Lshr, Equal};
 ghost use Rattle.expr.specs.Word.{Ult, Ule, Slt};
+
+#[derive(Clone, Copy)]
+pub enum Unary {
+    Not = 0x10,
+    Neg = 0x11,
+    Zero = 0x12,
+}
+
+#[derive(Clone, Copy)]
+pub enum Binary {
+    Add = 0x20,
+    Sub = 0x21,
+    Mul = 0x22,
+    Udiv = 0x23,
+    Urem = 0x24,
+    And = 0x25,
+    Or = 0x26,
+    Xor = 0x27,
+    Shl = 0x28,
+    Lshr = 0x29,
+    Equal = 0x2A,
+    Ult = 0x2B,
+    Slt = 0x2C,
+    Ule = 0x2D,
+}
+
+impl Unary {
+    pub fn of(self, a: u32) -> u32
+        ensures { result ≡ unary 32 self a }
+    {
+        match self {
+            Unary::Not => not(a),
+            Unary::Neg => neg(a),
+            Unary::Zero => zero(a),
+        }
+    }
+}
+
+impl Binary {
+    // Of the left operand and the right one.
+    pub fn of(self, a: u32, b: u32) -> u32
+        ensures { result ≡ binary 32 self a b }
+    {
+        match self {
+            Binary::Add => add(a, b),
+            Binary::Sub => sub(a, b),
+            Binary::Mul => mul(a, b),
+            Binary::Udiv => udiv(a, b),
+            Binary::Urem => urem(a, b),
+            Binary::And => and(a, b),
+            Binary::Or => or(a, b),
+            Binary::Xor => xor(a, b),
+            Binary::Shl => shl(a, b),
+            Binary::Lshr => lshr(a, b),
+            Binary::Equal => equal(a, b),
+            Binary::Ult => ult(a, b),
+            Binary::Slt => slt(a, b),
+            Binary::Ule => ule(a, b),
+        }
+    }
+}
 
 pub fn not(a: u32) -> u32
     ensures { result ≡ unary 32 Not a }

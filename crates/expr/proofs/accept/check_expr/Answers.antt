@@ -1,46 +1,30 @@
-use Rattle.std.proofs.Common.{◌≡◌, ℕ, Bool, length, sym, ap, ◌∙◌, arith, eq-eqb, ne_eqb}
-use Rattle.expr.specs.declared.accept.Checked.{Checked}
-use Rattle.expr.specs.declared.accept.Checked.TheVariants.{Broken}
-use Rattle.expr.specs.Expr.{readable}
-use Rattle.expr.proofs.ExprLaws.{fits-is}
-use Rattle.expr.proofs.Turns.{Went, goes_on, checked_stop, checked-on, checked-end}
+-- A token that breaks its rules ends the check; another one hands it on.
+use Rattle.std.proofs.Common.{◌≡◌, ℕ, Result, Err, length, sym, ap, ◌∙◌, arith, eq-eqb, ne_eqb}
+use Rattle.expr.proofs.Checks.{no-token, unfit-token, fit-token, checks-end}
 use Rattle.expr.proofs.accept.check_expr.Goals as goal
-use Rattle.expr.proofs.accept.check_expr.Goals.{In-Next, Start}
 
-abbrev may : Start → ℕ → Bool
-may c = readable c.args.inputs c.args.assigned.now
+pub returns-in_default : goal.returns-in_default
+returns-in_default c =
+    sym (no-token _ _ _ _ _ c.loop-at-test.true (sym c.token_at.ensures ∙ c.in_default.is)) ∙ c.loop-at.invariant.2
 
-pub returns-in-Stop : goal.returns-in-Stop
-returns-in-Stop c =
-    sym (checked_stop c.args.file (may (goal.at.returns-in-Stop c).Start) c.loop-at.depth c.args.e.now
-    c.loop-at.at c.loop-at-test.true (sym c.turn-t.ensures
-    ∙ c.in-Stop.is))
-    ∙ c.loop-at.invariant.2
-
-went : (c : In-Next) → Went c.args.file
-    (may (goal.at.In-Next c).Start) c.loop-at.depth
-    c.args.e.now c.loop-at.at
-    c.in-Next.deep c.in-Next.size
-went c = goes_on _ _ _ _ _ c.loop-at-test.true _ _ (sym c.turn-t.ensures ∙ c.in-Next.is)
+pub returns-in_default-left_by : goal.returns-in_default-left_by
+returns-in_default-left_by c =
+    sym (unfit-token _ _ _ _ _ c.loop-at-test.true _ (sym c.token_at.ensures ∙ c.in-Some.is)
+    (sym c.left_by.ensures ∙ c.in_default-left_by.is)) ∙ c.loop-at.invariant.2
 
 pub loop-at-preserved : goal.loop-at-preserved
 loop-at-preserved c =
-    let w = went (goal.at.loop-at-preserved c).In-Next in (
-      w.inside,
-      omega (arith, w.deep, (fits-is _ _ _ _ w.fit).room),
-      checked-on _ _ _ _ _
-          c.loop-at-test.true _ _ w ∙ c.loop-at.invariant.2,
-    )
+    let f =
+    fit-token _ _ _ _ _ c.loop-at-test.true _ (sym c.token_at.ensures ∙ c.in-Some.is) _ _ (sym c.left_by.ensures ∙ c.in-Some-left_by.is)
+    c.size-at.ensures in
+    (f.inside, f.deep, f.same ∙ c.loop-at.invariant.2)
 
 pub returns-then-depth-eq1 : goal.returns-then-depth-eq1
 returns-then-depth-eq1 c =
-    sym (checked-end c.args.file (may (goal.at.returns-then-depth-eq1 c).Start) c.loop-at.depth c.args.e.now c.loop-at.at
-    c.loop-at-test.false ∙ rw (eq-eqb _ _ c.if-depth-eq1.true))
-    ∙ c.loop-at.invariant.2
+    sym (checks-end _ _ _ _ _ c.loop-at-test.false ∙ rw (eq-eqb _ _ c.if-depth-eq1.true)) ∙ c.loop-at.invariant.2
 
-pub returns : goal.returns
-returns c =
-    ap {B = Checked} Broken (let q : c.loop-at.at ≡ length c.args.e.now = omega arith in q)
-    ∙ sym (checked-end c.args.file (may (goal.at.returns c).Start) c.loop-at.depth c.args.e.now c.loop-at.at
-    c.loop-at-test.false ∙ rw (ne_eqb _ _ c.if-depth-eq1.false))
+pub returns-else-depth-eq1 : goal.returns-else-depth-eq1
+returns-else-depth-eq1 c =
+    ap {B = Result (Unit {0}) ℕ} (λ n. Err n) (let q : c.loop-at.at ≡ length c.args.e.now = omega arith in q)
+    ∙ sym (checks-end _ _ _ _ _ c.loop-at-test.false ∙ rw (ne_eqb _ _ c.if-depth-eq1.false))
     ∙ c.loop-at.invariant.2

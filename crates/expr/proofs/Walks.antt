@@ -1,0 +1,49 @@
+-- An expression's tokens, one after the other: those that an accepted expression has, each of which may stand where it stands.
+use Rattle.std.proofs.Common.{◌≡◌, ℕ, zero, suc, Bool, true, false, cond, List, [], ◌∷◌, eqb, eqb-true, refl, sym, ap, ap₂, ◌∙◌}
+use Rattle.std.proofs.Common.{subst, arith, Bor}
+use Rattle.expr.specs.declared.File.{File}
+use Rattle.expr.specs.declared.token.Tokens.{Tokens}
+use Rattle.expr.specs.Token.{Token, operand_count, read_token}
+use Rattle.expr.specs.Expr.{depth_limit, after, Parsed, Whole, Breaks, parse_from, parse, Ok}
+use Rattle.expr.specs.Shown.{token_then, tokens_from, tokens_left, is_whole, tokens_of}
+use Rattle.expr.proofs.ExprLaws.{took}
+
+module _ (F : File) (may : ℕ → Bool) where
+  -- the tokens e, behind `skip` bytes, from d words to one
+  record Walk (d skip : ℕ) (bs : List ℕ) (e : List Token) : Type 0 where
+    pub read : tokens_from F skip bs ≡ e
+    pub ok : Ok may (depth_limit F) d 1 e
+
+  end : (d : ℕ) (e : List Token) (x : Bool) → eqb d 1 ≡ x → cond x (Whole []) (Breaks []) ≡ Whole e → ([] ≡ e) × Ok may (depth_limit F) d 1 e
+  end d e true q h = let p : [] ≡ e = cc in (p, subst (Ok may (depth_limit F) d 1) p (eqb-true d 1 q))
+  end d e false q h = absurd (let z : ◌≡◌ {A = ℕ} 0 1 = cc in omega arith)
+
+  walk : (d skip : ℕ) (bs : List ℕ) (e : List Token) → parse_from F may d skip bs ≡ Whole e → Walk d skip bs e
+  unfolding parse_from tokens_from
+  walk d skip [] e h = let k = end d e (eqb d 1) refl h in record { read = k.0; ok = k.1 }
+  walk d (suc skip) (b ∷ bs) e h = let w = walk d skip bs e h in record { read = w.read; ok = w.ok }
+  walk d zero (b ∷ bs) e h =
+      let k = took F may d (b ∷ bs) (read_token F (b ∷ bs)) (λ c m. parse_from F may c m bs) e h in
+      let w = walk (after d k.token) (operand_count F k.token) bs k.tail k.on in
+      record {
+        read =
+            ap (λ o. token_then F o (λ m. tokens_from F m bs)) k.is_read
+            ∙ ap {B = List Token} (λ ts. k.token ∷ ts) w.read
+            ∙ sym k.is;
+        ok = subst (Ok may (depth_limit F) d 1) (sym k.is) (k.fit, w.ok);
+      }
+
+  whole : (p : Parsed) → is_whole p ≡ true → p ≡ Whole (tokens_of p)
+  whole (Whole e) h = refl
+  whole (Breaks bs) h = absurd (let z : ◌≡◌ {A = ℕ} 0 1 = cc in omega arith)
+
+  module _ (bs : List ℕ) (h : is_whole (parse F may bs) ≡ true) where
+    walked : Walk 0 0 bs (tokens_of (parse F may bs))
+    walked = walk 0 0 bs (tokens_of (parse F may bs)) (whole (parse F may bs) h)
+
+    -- what the iterator over these bytes gives
+    pub tokens-given : (r : Tokens) (b : Bor (List ℕ)) → r.rest ≡ b → r.file ≡ F → b.now ≡ bs → tokens_left r ≡ tokens_of (parse F may bs)
+    tokens-given r b p q k = ap₂ (λ G (x : Bor (List ℕ)). tokens_from G 0 x.now) q p ∙ ap (tokens_from F 0) k ∙ walked.read
+
+    pub tokens-ok : Ok may (depth_limit F) 0 1 (tokens_of (parse F may bs))
+    tokens-ok = walked.ok
