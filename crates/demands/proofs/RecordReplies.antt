@@ -15,7 +15,7 @@ use Rattle.expr.specs.declared.File.{File}
 use Rattle.expr.specs.declared.File.TheVariants.{Table, Trace}
 use Rattle.expr.specs.Lists.{and_both, or_false}
 use Rattle.expr.specs.Number.{number_of}
-use Rattle.expr.specs.Token.{Token}
+use Rattle.expr.specs.declared.token.Token.{Token}
 use Rattle.expr.specs.Expr.{below, Parsed, Whole, Breaks, parse}
 use Rattle.file.specs.Outcome.{Kind, Assume, Assert, Bound}
 use Rattle.file.specs.File.{header_version, header_inputs, header_count, head_of, AtRecord, AtToken, Body, Good, Bad, field, rule, holding}

@@ -3,8 +3,11 @@
 use Rattle.std.specs.Prelude.{ℕ, ◌≡◌, refl, List, [], ◌∷◌, map}
 use Rattle.std.specs.Int.Count.{ones}
 use Rattle.expr.specs.Lists.{All}
-use Rattle.expr.specs.Word.{Binary, Sub, Mul, Udiv, Urem, Shl, Ult, Slt, signed, unary, binary}
-use Rattle.expr.specs.Token.{Const, Bin, operator, read_token}
+use Rattle.expr.specs.declared.word.Binary.{Binary}
+use Rattle.expr.specs.declared.word.Binary.TheVariants.{Sub, Mul, Udiv, Urem, Shl, Ult, Slt}
+use Rattle.expr.specs.Word.{signed, unary, binary}
+use Rattle.expr.specs.declared.token.Token.TheVariants.{Const, Bin}
+use Rattle.expr.specs.Token.{operator, read_token}
 use Rattle.expr.specs.Expr.{fits, parse_from}
 use Rattle.expr.specs.Eval.{env_of, value}
 use Rattle.file.specs.File.{header_count, header_reply, frame, record_of, records, read_file, encode}

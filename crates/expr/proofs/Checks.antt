@@ -2,7 +2,8 @@
 use Rattle.std.proofs.Common.{◌≡◌, ℕ, suc, ◌+◌, ◌-◌, ◌<◌, ◌≤◌, Bool, true, false, cond, eqb, List, [], length, drop, refl, sym, ap, ◌∙◌}
 use Rattle.std.proofs.Common.{subst, arith, length-drop, None, Some, Result, Ok, Err}
 use Rattle.expr.specs.declared.File.{File}
-use Rattle.expr.specs.Token.{Token, operand_count, read_token}
+use Rattle.expr.specs.declared.token.Token.{Token}
+use Rattle.expr.specs.Token.{operand_count, read_token}
 use Rattle.expr.specs.Expr.{depth_limit, after, fits, Parsed, Whole, Breaks, also, on_token, parse_from}
 use Rattle.expr.specs.Shown.{left_by, checked}
 use Rattle.expr.proofs.ExprLaws.{fits-is, token-at, end-at}

@@ -7,7 +7,8 @@ use Rattle.expr.specs.declared.File.{File}
 use Rattle.expr.specs.Lists.{All, or_left, or_right, or_cases}
 use Rattle.expr.specs.Word.{Word}
 use Rattle.expr.specs.WordLaws.{unary_lt, binary_lt, choice_lt}
-use Rattle.expr.specs.Token.{Token, Const, Symbol, Un, Bin, Ite}
+use Rattle.expr.specs.declared.token.Token.{Token}
+use Rattle.expr.specs.declared.token.Token.TheVariants.{Const, Symbol, Un, Bin, Ite}
 use Rattle.expr.specs.TokenLaws.{Holds}
 use Rattle.expr.specs.Expr.{pops, after, reads_only, fits, Whole}
 use Rattle.expr.proofs.ExprLaws.{fits-is}

@@ -3,7 +3,7 @@ use Rattle.std.proofs.Common.{◌≡◌, ℕ, ◌<◌, ◌≤◌, true, List, []
 use Rattle.expr.specs.declared.File.{File}
 use Rattle.expr.specs.declared.stack.Stack.{Stack}
 use Rattle.expr.specs.Stack.{empty_stack, top_of}
-use Rattle.expr.specs.Token.{Token}
+use Rattle.expr.specs.declared.token.Token.{Token}
 use Rattle.expr.specs.Expr.{below, depth_limit, Parsed, Whole, Breaks, parse, Ok}
 use Rattle.expr.specs.Eval.{Env, env_of, eval, top}
 use Rattle.expr.specs.Shown.{is_whole, tokens_of, stack_of, held, Stepped, value_of}

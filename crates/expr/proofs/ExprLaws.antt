@@ -11,7 +11,9 @@ use Rattle.expr.specs.declared.File.{File}
 use Rattle.expr.specs.declared.File.TheVariants.{Table, Trace}
 use Rattle.expr.specs.Lists.{All, and_both, both_and, or_false}
 use Rattle.expr.specs.Number.{Byte}
-use Rattle.expr.specs.Token.{Token, Const, Symbol, Un, Bin, Ite, operands, operand_count, expr_bytes, read_token}
+use Rattle.expr.specs.declared.token.Token.{Token}
+use Rattle.expr.specs.declared.token.Token.TheVariants.{Const, Symbol, Un, Bin, Ite}
+use Rattle.expr.specs.Token.{operands, operand_count, expr_bytes, read_token}
 use Rattle.expr.specs.TokenLaws.{Holds, IsOperator, operands-length, token-written, Stands, token-stands}
 use Rattle.expr.specs.Expr.{Ok, depth_limit, below, readable, pops, after, reads_only, fits, Parsed, Whole, Breaks, also, on_token}
 use Rattle.expr.specs.Expr.{parse_from, parse}

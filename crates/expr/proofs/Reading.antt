@@ -5,7 +5,9 @@ use Rattle.std.proofs.lemmas.Bool.{lt-leb}
 use Rattle.expr.specs.declared.File.{File}
 use Rattle.expr.specs.declared.File.TheVariants.{Table, Trace}
 use Rattle.expr.specs.Number.{number_of}
-use Rattle.expr.specs.Token.{Token, Const, Symbol, symbol_code, symbol_width, operand_count, operand, operator, read_token}
+use Rattle.expr.specs.declared.token.Token.{Token}
+use Rattle.expr.specs.declared.token.Token.TheVariants.{Const, Symbol}
+use Rattle.expr.specs.Token.{symbol_code, symbol_width, operand_count, operand, operator, read_token}
 use Rattle.expr.specs.TokenLaws.{token-there}
 use Rattle.expr.specs.Shown.{token_then, tokens_from}
 

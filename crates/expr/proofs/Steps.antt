@@ -3,8 +3,11 @@ use Rattle.std.proofs.Common.{◌≡◌, ℕ, zero, suc, ◌+◌, ◌-◌, ◌<�
 use Rattle.std.proofs.Common.{length-set, get_or-set_other, get_or-set_same}
 use Rattle.expr.specs.declared.stack.Stack.{Stack}
 use Rattle.expr.specs.Stack.{pushed_on, top_of, without_top}
-use Rattle.expr.specs.Word.{Unary, Binary, unary, binary, choice}
-use Rattle.expr.specs.Token.{Token, Const, Symbol, Un, Bin, Ite}
+use Rattle.expr.specs.declared.word.Unary.{Unary}
+use Rattle.expr.specs.declared.word.Binary.{Binary}
+use Rattle.expr.specs.Word.{unary, binary, choice}
+use Rattle.expr.specs.declared.token.Token.{Token}
+use Rattle.expr.specs.declared.token.Token.TheVariants.{Const, Symbol, Un, Bin, Ite}
 use Rattle.expr.specs.Expr.{pops, after}
 use Rattle.expr.specs.Eval.{Env, step, push_unary, push_binary, push_ite}
 use Rattle.expr.specs.Shown.{stack_of, held, Stepped}

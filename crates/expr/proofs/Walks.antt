@@ -3,7 +3,8 @@ use Rattle.std.proofs.Common.{◌≡◌, ℕ, zero, suc, Bool, true, false, cond
 use Rattle.std.proofs.Common.{subst, arith, Bor}
 use Rattle.expr.specs.declared.File.{File}
 use Rattle.expr.specs.declared.token.Tokens.{Tokens}
-use Rattle.expr.specs.Token.{Token, operand_count, read_token}
+use Rattle.expr.specs.declared.token.Token.{Token}
+use Rattle.expr.specs.Token.{operand_count, read_token}
 use Rattle.expr.specs.Expr.{depth_limit, after, Parsed, Whole, Breaks, parse_from, parse, Ok}
 use Rattle.expr.specs.Shown.{token_then, tokens_from, tokens_left, is_whole, tokens_of}
 use Rattle.expr.proofs.ExprLaws.{took}

@@ -2,9 +2,11 @@
 use Rattle.std.specs.Prelude.{◌≡◌, ℕ, zero, suc, List, [], ◌∷◌, map, length, replicate, refl}
 use Rattle.std.specs.Prelude.{None, Some}
 use Rattle.expr.specs.declared.File.TheVariants.{Table, Trace}
-use Rattle.expr.specs.Word.{Not, Neg, Zero, Add, Sub, Mul, Udiv, Urem, And, Or, Xor, Shl, Lshr, Equal, Ult, Ule, Slt}
+use Rattle.expr.specs.declared.word.Unary.TheVariants.{Not, Neg, Zero}
+use Rattle.expr.specs.declared.word.Binary.TheVariants.{Add, Sub, Mul, Udiv, Urem, And, Or, Xor, Shl, Lshr, Equal, Ult, Ule, Slt}
 use Rattle.expr.specs.Word.{signed, unary, binary, choice}
-use Rattle.expr.specs.Token.{Const, Symbol, Un, Bin, Ite, operator, read_token}
+use Rattle.expr.specs.declared.token.Token.TheVariants.{Const, Symbol, Un, Bin, Ite}
+use Rattle.expr.specs.Token.{operator, read_token}
 use Rattle.expr.specs.Expr.{below, fits, Parsed, Whole, Breaks, parse_from, parse}
 use Rattle.expr.specs.Eval.{env_of, value}
 

@@ -1,7 +1,10 @@
 -- Document 01, "Arithmetic": what an expression computes, on a stack of words with the last pushed first.
 use Rattle.std.specs.Prelude.{ℕ, Bool, false, cond, ◌||◌, List, [], ◌∷◌, map, ◌==◌, slice_index}
-use Rattle.expr.specs.Word.{Unary, Binary, unary, binary, choice}
-use Rattle.expr.specs.Token.{Token, Const, Symbol, Un, Bin, Ite}
+use Rattle.expr.specs.declared.word.Unary.{Unary}
+use Rattle.expr.specs.declared.word.Binary.{Binary}
+use Rattle.expr.specs.Word.{unary, binary, choice}
+use Rattle.expr.specs.declared.token.Token.{Token}
+use Rattle.expr.specs.declared.token.Token.TheVariants.{Const, Symbol, Un, Bin, Ite}
 
 -- the value of each symbol
 abbrev pub Env : Type 0

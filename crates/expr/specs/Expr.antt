@@ -3,7 +3,9 @@ use Rattle.std.specs.Prelude.{◌≡◌, ℕ, zero, suc, ◌-◌, Bool, true, fa
 use Rattle.std.specs.Prelude.{slice_index_or, Option, None, Some}
 use Rattle.expr.specs.declared.File.{File}
 use Rattle.expr.specs.declared.File.TheVariants.{Table, Trace}
-use Rattle.expr.specs.Token.{Token, Const, Symbol, Un, Bin, Ite, operand_count, read_token}
+use Rattle.expr.specs.declared.token.Token.{Token}
+use Rattle.expr.specs.declared.token.Token.TheVariants.{Const, Symbol, Un, Bin, Ite}
+use Rattle.expr.specs.Token.{operand_count, read_token}
 
 -- the words that an expression may hold at most
 abbrev pub depth_limit : File → ℕ

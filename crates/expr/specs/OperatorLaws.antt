@@ -12,7 +12,8 @@ use Rattle.std.proofs.lemmas.Nat.{shl-shr}
 use Rattle.std.proofs.Math.Pow.{field, mod-mod-pow}
 use Rattle.std.specs.Int.Bits.{shifted_even}
 use borrow.Author.Tests.{ltb-true, ltb-false, lt-ltb, le-ltb, leb-true, leb-false, le-leb, lt-leb, eqb-true, eqb-false, eq-eqb, ne_eqb}
-use Rattle.expr.specs.Word.{Neg, Zero, Add, Sub, Mul, Udiv, Urem, And, Shl, Lshr, Equal, Ult, Ule, Slt}
+use Rattle.expr.specs.declared.word.Unary.TheVariants.{Neg, Zero}
+use Rattle.expr.specs.declared.word.Binary.TheVariants.{Add, Sub, Mul, Udiv, Urem, And, Shl, Lshr, Equal, Ult, Ule, Slt}
 use Rattle.expr.specs.Word.{test, unary, binary, choice, bit}
 use Rattle.expr.specs.WordLaws.{raised, same_ltb, halved, slt_raised}
 

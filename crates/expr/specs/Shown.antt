@@ -4,7 +4,8 @@ use Rattle.std.specs.Prelude.{Result, Ok, Err}
 use Rattle.expr.specs.declared.File.{File}
 use Rattle.expr.specs.declared.token.Tokens.{Tokens}
 use Rattle.expr.specs.declared.stack.Stack.{Stack}
-use Rattle.expr.specs.Token.{Token, operand_count, read_token}
+use Rattle.expr.specs.declared.token.Token.{Token}
+use Rattle.expr.specs.Token.{operand_count, read_token}
 use Rattle.expr.specs.Expr.{after, fits, Parsed, Whole, Breaks}
 use Rattle.expr.specs.Eval.{Env, step, eval, top}
 

@@ -6,10 +6,15 @@ use Rattle.std.specs.Prelude.{Option, None, Some}
 use Rattle.expr.specs.declared.File.{File}
 use Rattle.expr.specs.declared.File.TheVariants.{Table, Trace}
 use Rattle.expr.specs.Lists.{All}
-use Rattle.expr.specs.Word.{Unary, Not, Neg, Zero, Binary, Add, Sub, Mul, Udiv, Urem, And, Or, Xor, Shl, Lshr, Equal, Ult, Ule, Slt}
+use Rattle.expr.specs.declared.word.Unary.{Unary}
+use Rattle.expr.specs.declared.word.Unary.TheVariants.{Not, Neg, Zero}
+use Rattle.expr.specs.declared.word.Binary.{Binary}
+use Rattle.expr.specs.declared.word.Binary.TheVariants.{Add, Sub, Mul, Udiv, Urem, And, Or, Xor, Shl, Lshr, Equal, Ult, Ule, Slt}
 use Rattle.expr.specs.Number.{Byte, number_of, bytes_of}
 use Rattle.expr.specs.NumberLaws.{bytes_of-length, number-written, number_lt, bytes_read}
-use Rattle.expr.specs.Token.{Token, Const, Symbol, Un, Bin, Ite, symbol_code, symbol_width, unary_code, binary_code, code, operands}
+use Rattle.expr.specs.declared.token.Token.{Token}
+use Rattle.expr.specs.declared.token.Token.TheVariants.{Const, Symbol, Un, Bin, Ite}
+use Rattle.expr.specs.Token.{symbol_code, symbol_width, unary_code, binary_code, code, operands}
 use Rattle.expr.specs.Token.{operand_count, token_bytes, expr_bytes, operators, coded, operator, operand, read_token}
 
 -- the number of a token fits its bytes

@@ -1,13 +1,12 @@
 -- Document 01, "Arithmetic": the operators on words of w bits. A word is a number below 2 ^ w; the code's words have 32 bits.
--- They are those of SMT-LIB's FixedSizeBitVectors.
+-- They are those of SMT-LIB's FixedSizeBitVectors. `src/word.rt` declares them.
 use Rattle.std.specs.Prelude.{ℕ, ◌+◌, ◌-◌, ◌*◌, ◌/◌, ◌%◌, ◌^◌, ◌<◌, Bool, true, false, cond, not, ℤ, pos, ◌==◌, bit_and, bit_or, bit_xor}
 use Rattle.std.specs.Prelude.{int_lt, nat_le, nat_lt}
 use Rattle.std.proofs.Math.IntN.{sub_ℕ}
--- the operators, which are the code's types
-pub use Rattle.expr.specs.declared.word.Unary.{Unary}
-pub use Rattle.expr.specs.declared.word.Unary.TheVariants.{Not, Neg, Zero}
-pub use Rattle.expr.specs.declared.word.Binary.{Binary}
-pub use Rattle.expr.specs.declared.word.Binary.TheVariants.{Add, Sub, Mul, Udiv, Urem, And, Or, Xor, Shl, Lshr, Equal, Ult, Ule, Slt}
+use Rattle.expr.specs.declared.word.Unary.{Unary}
+use Rattle.expr.specs.declared.word.Unary.TheVariants.{Not, Neg, Zero}
+use Rattle.expr.specs.declared.word.Binary.{Binary}
+use Rattle.expr.specs.declared.word.Binary.TheVariants.{Add, Sub, Mul, Udiv, Urem, And, Or, Xor, Shl, Lshr, Equal, Ult, Ule, Slt}
 
 -- a word of 32 bits
 abbrev pub Word : ℕ → Type 0

@@ -11,7 +11,10 @@ use Rattle.std.proofs.Math.Pow.{pow_pos, split}
 use Rattle.std.specs.Int.Bits.{differ, and_lt, or_lt, xor_lt, and_step, or_step, xor_step}
 use Rattle.std.proofs.lemmas.Nat.{and_shr, or_shr, xor_shr}
 use Rattle.std.proofs.Math.IntN.{sub_ℕ}
-use Rattle.expr.specs.Word.{Unary, Not, Neg, Zero, Binary, Add, Sub, Mul, Udiv, Urem, And, Or, Xor, Shl, Lshr, Equal, Ult, Ule, Slt}
+use Rattle.expr.specs.declared.word.Unary.{Unary}
+use Rattle.expr.specs.declared.word.Unary.TheVariants.{Not, Neg, Zero}
+use Rattle.expr.specs.declared.word.Binary.{Binary}
+use Rattle.expr.specs.declared.word.Binary.TheVariants.{Add, Sub, Mul, Udiv, Urem, And, Or, Xor, Shl, Lshr, Equal, Ult, Ule, Slt}
 use Rattle.expr.specs.Word.{truthy, test, signed, unary, binary, choice, bit}
 
 -- ---- words in, words out

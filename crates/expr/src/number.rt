@@ -5,7 +5,7 @@ ghost use Rattle.expr.specs.Number.{number_of};
 pub fn wide(b: u8) -> usize
     ensures { (result ≡ b) × (result < 256) }
 {
-    b as usize
+    usize::from(b)
 }
 
 pub fn byte_at(s: &[u8], at: usize) -> usize
@@ -19,14 +19,12 @@ pub fn two_at(s: &[u8], at: usize) -> usize
     requires { at + 2 ≤ length s.now }
     ensures { (result ≡ number_of 2 (drop at s.now)) × (result < 65536) }
 {
-    wide(s[at]) * 256 + wide(s[at + 1])
+    usize::from(u16::from_be_bytes([s[at], s[at + 1]]))
 }
 
 pub fn word_at(s: &[u8], at: usize) -> u32
     requires { at + 4 ≤ length s.now }
     ensures { result ≡ number_of 4 (drop at s.now) }
 {
-    let high = two_at(s, at);
-    let low = two_at(s, at + 2);
-    (high * 65536 + low) as u32
+    u32::from_be_bytes([s[at], s[at + 1], s[at + 2], s[at + 3]])
 }

@@ -1,7 +1,11 @@
 // Arithmetic on 32-bit words: one function for each operator, and the operators by kind, each with the code that stands for it in a file.
+#![tactic(auto, unfolding(crate::specs::Word::unary, crate::specs::Word::binary))]
+
 ghost use Rattle.std.specs.Prelude.{◌≡◌};
-ghost use Rattle.expr.specs.Word.{unary, binary, choice, Not, Neg, Zero, Add, Sub, Mul, Udiv, Urem, And, Or, Xor, Shl, Lshr, Equal};
-ghost use Rattle.expr.specs.Word.{Ult, Ule, Slt};
+ghost use Rattle.expr.specs.declared.word.Unary.TheVariants.{Not, Neg, Zero};
+ghost use Rattle.expr.specs.declared.word.Binary.TheVariants.{Add, Sub, Mul, Udiv, Urem, And, Or, Xor, Shl, Lshr, Equal};
+ghost use Rattle.expr.specs.Word.{unary, binary, choice};
+ghost use Rattle.expr.specs.declared.word.Binary.TheVariants.{Ult, Ule, Slt};
 
 #[derive(Clone, Copy)]
 pub enum Unary {

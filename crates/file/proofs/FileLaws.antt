@@ -17,9 +17,9 @@ use borrow.Author.Tests.{eqb-true, eqb-false, eq-eqb, ne_eqb, leb-true, leb-fals
 use Rattle.expr.specs.Lists.{and_both}
 use Rattle.expr.specs.Number.{number_of, bytes_of}
 use Rattle.expr.specs.NumberLaws.{number-written}
-use Rattle.expr.specs.Token.{Token}
+use Rattle.expr.specs.declared.token.Token.{Token}
 use Rattle.expr.specs.declared.File.{File}
-use Rattle.expr.specs.declared.accept.Checked.TheVariants.{Fine, Broken}
+use Rattle.std.specs.Prelude.{Ok, Err}
 use Rattle.expr.specs.Shown.{checked}
 use Rattle.expr.proofs.ExprLaws.{breaks-inside}
 use Rattle.expr.specs.Expr.{Parsed, Whole, Breaks, parse}
@@ -144,11 +144,11 @@ module _ (F : File) (may : ℕ → Bool) (from : ℕ) (body : List ℕ) (inside 
   same-part : parse F may part ≡ parse F may (drop from body)
   same-part = ap (parse F may) (take_all (length body - from) (drop from body) (omega (arith, length-drop from body)))
 
-  pub expr-fine : (n : ℕ) → checked n (parse F may (take (length body - from) (drop from body))) ≡ Fine
+  pub expr-fine : (n : ℕ) → checked n (parse F may (take (length body - from) (drop from body))) ≡ Ok tt
       → fine ≡ expr_fault (length body) (parse F may (drop from body))
   expr-fine n h = go (parse F may part) h ∙ ap (expr_fault (length body)) same-part
     where
-      go : (p : Parsed) → checked n p ≡ Fine → fine ≡ expr_fault (length body) p
+      go : (p : Parsed) → checked n p ≡ Ok tt → fine ≡ expr_fault (length body) p
       go (Whole e) h = refl
       go (Breaks bs) h = absurd (let z : ◌≡◌ {A = ℕ} 0 1 = cc in omega arith)
 
@@ -157,19 +157,19 @@ module _ (F : File) (may : ℕ → Bool) (from : ℕ) (body : List ℕ) (inside 
 
   -- the token stands in the part
   pub broken_inside : (i : ℕ) → checked (length (take (length body - from) (drop from body)))
-      (parse F may (take (length body - from) (drop from body))) ≡ Broken i → from + i ≤ length body
+      (parse F may (take (length body - from) (drop from body))) ≡ Err i → from + i ≤ length body
   broken_inside i h = go (parse F may part) h
     where
-      go : (p : Parsed) → checked (length part) p ≡ Broken i → from + i ≤ length body
+      go : (p : Parsed) → checked (length part) p ≡ Err i → from + i ≤ length body
       go (Whole e) h = absurd (let z : ◌≡◌ {A = ℕ} 0 1 = cc in omega arith)
       go (Breaks bs) h = let e : length part - length bs ≡ i = cc in omega (arith, long, inside)
 
   pub expr_broken : (i : ℕ) → checked (length (take (length body - from) (drop from body)))
-      (parse F may (take (length body - from) (drop from body))) ≡ Broken i
+      (parse F may (take (length body - from) (drop from body))) ≡ Err i
       → record { reply = 7; from = 2 + from + i } ≡ expr_fault (length body) (parse F may (drop from body))
   expr_broken i h = go (parse F may part) refl h ∙ ap (expr_fault (length body)) same-part
     where
-      go : (p : Parsed) → parse F may part ≡ p → checked (length part) p ≡ Broken i
+      go : (p : Parsed) → parse F may part ≡ p → checked (length part) p ≡ Err i
           → record { reply = 7; from = 2 + from + i } ≡ expr_fault (length body) p
       go (Whole e) q h = absurd (let z : ◌≡◌ {A = ℕ} 0 1 = cc in omega arith)
       go (Breaks bs) q h =

@@ -1,7 +1,7 @@
 -- Document 01, "Table and trace bytes" and "Numbered replies": headers, records and their refusals, for tables and traces alike.
 use Rattle.std.specs.Prelude.{◌≤◌, ℕ, zero, suc, ◌+◌, ◌-◌, Bool, cond, ◌&&◌, List, [], ◌∷◌, ◌++◌, length, take, drop, get_or, eqb, leb}
 use Rattle.expr.specs.Number.{number_of, bytes_of}
-use Rattle.expr.specs.Token.{Token}
+use Rattle.expr.specs.declared.token.Token.{Token}
 use Rattle.expr.specs.Expr.{Parsed, Whole, Breaks}
 
 -- ---- the header

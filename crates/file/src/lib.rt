@@ -10,7 +10,6 @@ ghost use Rattle.file.specs.File.{header_reply, frame};
 ghost use Rattle.file.specs.Words.{words_of};
 ghost use Rattle.file.specs.Shown.{expr_fault, rest_of};
 
-use expr::accept::Checked;
 use expr::{File, accept, number};
 
 // How far the records of a file were read: a reply with its offset, 0 if all are there and nothing after them; and the number of records
@@ -136,10 +135,9 @@ pub fn expr_fault(body: &[u8], from: usize, f: File, inputs: usize, assigned: &[
     ensures { result ≡ expr_fault (length body.now)
         (parse f (readable inputs assigned.now) (drop from body.now)) }
 {
-    let c = accept::check_expr(&body[from..], f, inputs, assigned);
-    match c {
-        Checked::Fine => Fault { reply: 0, from: 0 },
-        Checked::Broken(at) => Fault {
+    match accept::check_expr(&body[from..], f, inputs, assigned) {
+        Ok(()) => Fault { reply: 0, from: 0 },
+        Err(at) => Fault {
             reply: 7,
             from: 2 + from + at,
         },

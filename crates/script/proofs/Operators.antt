@@ -9,8 +9,11 @@ use lib.ListN.{length}
 use lib.Dec.{eqb, leb}
 use borrow.Author.Tests.{eqb-true, eqb-false, leb-true, le-leb, lt-leb}
 use Rattle.expr.specs.declared.File.TheVariants.{Table}
-use Rattle.expr.specs.Word.{Binary, Add, Sub, Mul, Udiv, Urem, And, Or, Xor, Shl, Lshr, Equal, Ult, Ule, Slt}
-use Rattle.expr.specs.Token.{Token, Bin, Ite, binary_code, code, operator}
+use Rattle.expr.specs.declared.word.Binary.{Binary}
+use Rattle.expr.specs.declared.word.Binary.TheVariants.{Add, Sub, Mul, Udiv, Urem, And, Or, Xor, Shl, Lshr, Equal, Ult, Ule, Slt}
+use Rattle.expr.specs.declared.token.Token.{Token}
+use Rattle.expr.specs.declared.token.Token.TheVariants.{Bin, Ite}
+use Rattle.expr.specs.Token.{binary_code, code, operator}
 use Rattle.expr.specs.TokenLaws.{IsOperator, operator-coded, operator-is}
 use Rattle.expr.specs.Shown.{pops_of}
 use Rattle.expr.proofs.Steps.{unary-code, binary-code, ite-code, is-binary}

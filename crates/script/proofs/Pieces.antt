@@ -10,7 +10,7 @@ use borrow.Author.Tests.{eq-eqb, ne_eqb}
 use Rattle.expr.specs.declared.File.TheVariants.{Trace}
 use Rattle.expr.specs.Lists.{All}
 use Rattle.expr.specs.Number.{Byte, number_of}
-use Rattle.expr.specs.Token.{Token}
+use Rattle.expr.specs.declared.token.Token.{Token}
 use Rattle.expr.specs.Expr.{below, parse}
 use Rattle.expr.specs.Shown.{tokens_of}
 use Rattle.file.specs.Outcome.{Kind, Assume, Bound}

@@ -10,8 +10,13 @@ use Rattle.expr.specs.declared.File.TheVariants.{Trace}
 use Rattle.expr.specs.Lists.{All}
 use Rattle.expr.specs.Number.{Byte, bytes_of}
 use Rattle.expr.specs.NumberLaws.{bytes_of-length}
-use Rattle.expr.specs.Word.{Unary, Not, Neg, Zero, Binary, Add, Sub, Mul, Udiv, Urem, And, Or, Xor, Shl, Lshr, Equal, Ult, Ule, Slt}
-use Rattle.expr.specs.Token.{Token, Const, Symbol, Un, Bin, Ite, token_bytes, expr_bytes}
+use Rattle.expr.specs.declared.word.Unary.{Unary}
+use Rattle.expr.specs.declared.word.Unary.TheVariants.{Not, Neg, Zero}
+use Rattle.expr.specs.declared.word.Binary.{Binary}
+use Rattle.expr.specs.declared.word.Binary.TheVariants.{Add, Sub, Mul, Udiv, Urem, And, Or, Xor, Shl, Lshr, Equal, Ult, Ule, Slt}
+use Rattle.expr.specs.declared.token.Token.{Token}
+use Rattle.expr.specs.declared.token.Token.TheVariants.{Const, Symbol, Un, Bin, Ite}
+use Rattle.expr.specs.Token.{token_bytes, expr_bytes}
 use Rattle.expr.specs.Expr.{pops, after}
 use Rattle.expr.proofs.ExprLaws.{fits-is}
 use Rattle.expr.specs.Expr.{Ok}

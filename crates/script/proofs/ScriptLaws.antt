@@ -16,9 +16,13 @@ use Rattle.std.proofs.Math.ListN.{length}
 use Rattle.std.proofs.lemmas.Bool.{eqb-false}
 use Rattle.expr.specs.declared.File.TheVariants.{Trace}
 use Rattle.expr.specs.Lists.{All, and_both, both_and}
-use Rattle.expr.specs.Word.{Unary, Not, Neg, Zero, Binary, Add, Sub, Mul, Udiv, Urem, And, Or, Xor, Shl, Lshr, Equal, Ult, Ule, Slt}
+use Rattle.expr.specs.declared.word.Unary.{Unary}
+use Rattle.expr.specs.declared.word.Unary.TheVariants.{Not, Neg, Zero}
+use Rattle.expr.specs.declared.word.Binary.{Binary}
+use Rattle.expr.specs.declared.word.Binary.TheVariants.{Add, Sub, Mul, Udiv, Urem, And, Or, Xor, Shl, Lshr, Equal, Ult, Ule, Slt}
 use Rattle.expr.specs.Word.{Word, test, unary, binary, choice}
-use Rattle.expr.specs.Token.{Token, Const, Symbol, Un, Bin, Ite}
+use Rattle.expr.specs.declared.token.Token.{Token}
+use Rattle.expr.specs.declared.token.Token.TheVariants.{Const, Symbol, Un, Bin, Ite}
 use Rattle.expr.specs.TokenLaws.{Holds}
 use Rattle.expr.specs.Expr.{pops, after}
 use Rattle.expr.proofs.ExprLaws.{fits-is}

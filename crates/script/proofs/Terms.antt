@@ -10,7 +10,9 @@ use lib.ListN.{length, drop, replicate}
 use Rattle.expr.specs.declared.File.TheVariants.{Table, Trace}
 use Rattle.expr.specs.declared.token.Read.{Read}
 use Rattle.expr.specs.declared.token.Read.TheVariants as R
-use Rattle.expr.specs.Token.{Token, Const, Symbol, Un, Bin, Ite, code, read_token}
+use Rattle.expr.specs.declared.token.Token.{Token}
+use Rattle.expr.specs.declared.token.Token.TheVariants.{Const, Symbol, Un, Bin, Ite}
+use Rattle.expr.specs.Token.{code, read_token}
 use Rattle.expr.specs.TokenLaws.{IsOperator, operator-coded}
 use Rattle.expr.specs.Expr.{below, pops, after, parse}
 use Rattle.expr.specs.Shown.{shown_token, popped, pops_of, turned, goes, is_whole, tokens_of, size_of}

@@ -1,7 +1,10 @@
 -- Scripts letter by letter, and SMT-LIB's own operators: computed.
 use Rattle.std.specs.Prelude.{◌≡◌, refl, true, false, List, [], ◌∷◌, ◌++◌}
-use Rattle.expr.specs.Word.{Not, Neg, Zero, Add, Sub, Mul, Udiv, Urem, And, Or, Xor, Shl, Lshr, Equal, Ult, Ule, Slt}
-use Rattle.expr.specs.Token.{Token, Const, Symbol, Un, Bin, Ite, operator, read_token}
+use Rattle.expr.specs.declared.word.Unary.TheVariants.{Not, Neg, Zero}
+use Rattle.expr.specs.declared.word.Binary.TheVariants.{Add, Sub, Mul, Udiv, Urem, And, Or, Xor, Shl, Lshr, Equal, Ult, Ule, Slt}
+use Rattle.expr.specs.declared.token.Token.{Token}
+use Rattle.expr.specs.declared.token.Token.TheVariants.{Const, Symbol, Un, Bin, Ite}
+use Rattle.expr.specs.Token.{operator, read_token}
 use Rattle.expr.specs.Expr.{fits, parse_from}
 use Rattle.file.specs.Outcome.{Assume, Assert, Bound}
 use Rattle.file.specs.File.{head_size, header_inputs, header_count, inputs_limit, input_room, header_reply, frame, record_of, records}

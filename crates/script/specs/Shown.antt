@@ -4,8 +4,13 @@ use Prim.Native.String.{String}
 use Rattle.std.proofs.Math.Option.{Option, none, some}
 use Rattle.expr.specs.declared.token.Read.{Read}
 use Rattle.expr.specs.declared.token.Read.TheVariants as R
-use Rattle.expr.specs.Word.{Unary, Not, Neg, Zero, Binary, Add, Sub, Mul, Udiv, Urem, And, Or, Xor, Shl, Lshr, Equal, Ult, Ule, Slt}
-use Rattle.expr.specs.Token.{Token, Const, Symbol, Un, Bin, Ite, operator}
+use Rattle.expr.specs.declared.word.Unary.{Unary}
+use Rattle.expr.specs.declared.word.Unary.TheVariants.{Not, Neg, Zero}
+use Rattle.expr.specs.declared.word.Binary.{Binary}
+use Rattle.expr.specs.declared.word.Binary.TheVariants.{Add, Sub, Mul, Udiv, Urem, And, Or, Xor, Shl, Lshr, Equal, Ult, Ule, Slt}
+use Rattle.expr.specs.declared.token.Token.{Token}
+use Rattle.expr.specs.declared.token.Token.TheVariants.{Const, Symbol, Un, Bin, Ite}
+use Rattle.expr.specs.Token.{operator}
 use Rattle.expr.specs.Expr.{pops}
 use Rattle.expr.specs.Shown.{pops_of}
 use Rattle.file.specs.Outcome.{Kind, Assume, Assert, Bound}

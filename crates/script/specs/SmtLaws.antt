@@ -7,7 +7,8 @@ use Rattle.std.proofs.Math.Path.{refl, sym, ap}
 use Rattle.std.proofs.Math.Bool.{true, false, cond}
 use Rattle.std.proofs.Math.Dec.{eqb, ltb, leb}
 use borrow.Author.Tests.{eqb-true, eqb-false, ltb-true, ltb-false, lt-ltb, le-ltb, le-leb, lt-leb}
-use Rattle.expr.specs.Word.{Word, Sub, Shl, Lshr, Slt, test, binary}
+use Rattle.expr.specs.declared.word.Binary.TheVariants.{Sub, Shl, Lshr, Slt}
+use Rattle.expr.specs.Word.{Word, test, binary}
 use Rattle.expr.specs.WordLaws.{raised, same_ltb, slt_raised}
 use Rattle.script.specs.Smt.{bvsub, bvshl, bvlshr, bvule, bvslt, bv_binary, sign, related}
 

@@ -1,7 +1,8 @@
 // The word that an operator pushes, as a term over the variables of the words that it pops.
 ghost use Rattle.std.proofs.Math.Option.{some};
 ghost use Rattle.std.specs.Prelude.{◌+◌, ◌≤◌, ◌<◌, ◌^◌};
-ghost use Rattle.expr.specs.Token.{Ite, operator};
+ghost use Rattle.expr.specs.declared.token.Token.TheVariants.{Ite};
+ghost use Rattle.expr.specs.Token.{operator};
 ghost use Rattle.expr.specs.Shown.{pops_of};
 ghost use Rattle.write.specs.Splice.{Wrote};
 ghost use Rattle.script.specs.Shown.{front_of, binary_text, word_text};

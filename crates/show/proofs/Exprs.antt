@@ -10,7 +10,8 @@ use lib.ListN.{length, drop}
 use Rattle.expr.specs.declared.File.TheVariants.{Trace}
 use Rattle.expr.specs.declared.token.Read.{Read}
 use Rattle.expr.specs.declared.token.Read.TheVariants as R
-use Rattle.expr.specs.Token.{Token, read_token}
+use Rattle.expr.specs.declared.token.Token.{Token}
+use Rattle.expr.specs.Token.{read_token}
 use Rattle.expr.specs.Expr.{below, parse}
 use Rattle.expr.specs.Shown.{shown_token, is_whole, tokens_of, size_of}
 use Rattle.expr.proofs.Reading.{shown-constant, shown-symbol, shown-operator}

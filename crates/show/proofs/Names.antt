@@ -8,7 +8,8 @@ use lib.ListN.{length}
 use lib.Dec.{leb}
 use borrow.Author.Tests.{leb-true}
 use Rattle.expr.specs.declared.File.TheVariants.{Table}
-use Rattle.expr.specs.Token.{Token, code, operator}
+use Rattle.expr.specs.declared.token.Token.{Token}
+use Rattle.expr.specs.Token.{code, operator}
 use Rattle.expr.specs.TokenLaws.{IsOperator, operator-coded}
 use Rattle.write.specs.Splice.{Wrote}
 use Rattle.write.specs.SpliceLaws.{wrote_as}

@@ -1,7 +1,9 @@
 -- Document 01's printed slice of the small rule, letter by letter, and refusals: computed.
 use Rattle.std.specs.Prelude.{◌≡◌, refl, [], ◌∷◌, ◌++◌}
-use Rattle.expr.specs.Word.{Not, Neg, Zero, Add, Sub, Mul, Udiv, Urem, And, Or, Xor, Shl, Lshr, Equal, Ult, Ule, Slt}
-use Rattle.expr.specs.Token.{Const, Symbol, Un, Bin, Ite, operator, read_token}
+use Rattle.expr.specs.declared.word.Unary.TheVariants.{Not, Neg, Zero}
+use Rattle.expr.specs.declared.word.Binary.TheVariants.{Add, Sub, Mul, Udiv, Urem, And, Or, Xor, Shl, Lshr, Equal, Ult, Ule, Slt}
+use Rattle.expr.specs.declared.token.Token.TheVariants.{Const, Symbol, Un, Bin, Ite}
+use Rattle.expr.specs.Token.{operator, read_token}
 use Rattle.expr.specs.Expr.{fits, parse_from}
 use Rattle.file.specs.File.{header_reply, frame, record_of, records, read_file, encode}
 use Rattle.table.specs.Table.{instr, read_table}

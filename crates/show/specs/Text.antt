@@ -1,8 +1,12 @@
 -- Document 01, "A small rule, worked": the text that the slice printer gives, for every input.
 use Rattle.std.specs.Prelude.{ℕ, cond, List, [], ◌∷◌, ◌++◌, length, eqb}
 use Prim.Native.String.{String}
-use Rattle.expr.specs.Word.{Unary, Not, Neg, Zero, Binary, Add, Sub, Mul, Udiv, Urem, And, Or, Xor, Shl, Lshr, Equal, Ult, Ule, Slt}
-use Rattle.expr.specs.Token.{Token, Const, Symbol, Un, Bin, Ite}
+use Rattle.expr.specs.declared.word.Unary.{Unary}
+use Rattle.expr.specs.declared.word.Unary.TheVariants.{Not, Neg, Zero}
+use Rattle.expr.specs.declared.word.Binary.{Binary}
+use Rattle.expr.specs.declared.word.Binary.TheVariants.{Add, Sub, Mul, Udiv, Urem, And, Or, Xor, Shl, Lshr, Equal, Ult, Ule, Slt}
+use Rattle.expr.specs.declared.token.Token.{Token}
+use Rattle.expr.specs.declared.token.Token.TheVariants.{Const, Symbol, Un, Bin, Ite}
 use Rattle.file.specs.Outcome.{Kind, Assume, Assert, Bound}
 use Rattle.file.specs.File.{Input, Accepted, Refused}
 use Rattle.trace.specs.Trace.{Stmt, Assign, Test, read_trace}

@@ -15,7 +15,8 @@ use Rattle.std.proofs.Math.Bool.{true, false}
 use Rattle.expr.specs.Lists.{All, or_left, or_right, or_cases}
 use Rattle.expr.specs.Number.{Byte}
 use Rattle.expr.specs.Word.{truthy}
-use Rattle.expr.specs.Token.{Token, Const, Symbol, Un, Bin, Ite}
+use Rattle.expr.specs.declared.token.Token.{Token}
+use Rattle.expr.specs.declared.token.Token.TheVariants.{Const, Symbol, Un, Bin, Ite}
 use Rattle.expr.specs.Expr.{after, reads_only}
 use Rattle.expr.proofs.ExprLaws.{fits-is, is-fits}
 use Rattle.expr.specs.Expr.{Ok}

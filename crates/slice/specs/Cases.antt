@@ -2,7 +2,8 @@
 use Rattle.std.specs.Prelude.{ℕ, ◌+◌, ◌^◌, ◌≡◌, refl, List, [], ◌∷◌, ◌++◌, length}
 use Rattle.std.proofs.Common.{ap}
 use Rattle.std.specs.Int.Count.{ones}
-use Rattle.expr.specs.Token.{Symbol, operator, read_token}
+use Rattle.expr.specs.declared.token.Token.TheVariants.{Symbol}
+use Rattle.expr.specs.Token.{operator, read_token}
 use Rattle.expr.specs.Expr.{fits, parse_from}
 use Rattle.file.specs.Outcome.{Assert}
 use Rattle.file.specs.File.{header_reply, frame, record_of, records, read_file, encode}

@@ -2,7 +2,7 @@
 use Rattle.std.specs.Prelude.{ℕ, ◌+◌, ◌*◌, ◌/◌, ◌%◌, ◌≡◌, Bool, true, false, cond, ◌||◌, List, [], ◌∷◌, length, get_or, set, eqb}
 use Rattle.std.proofs.Math.Option.{Option, none, some}
 use Rattle.expr.specs.Word.{bit}
-use Rattle.expr.specs.Token.{Token}
+use Rattle.expr.specs.declared.token.Token.{Token}
 use Rattle.expr.specs.Eval.{reads_token, reads}
 use Rattle.file.specs.File.{Body, Good, Bad, record_bytes, records_bytes}
 use Rattle.trace.specs.Trace.{Stmt, Assign, Test, reads_trace, stmt_bytes}

@@ -8,7 +8,7 @@ use lib.ListN.{length, take, drop, get_or}
 use borrow.Author.Tests.{eq-eqb, ne_eqb}
 use Rattle.expr.specs.declared.File.TheVariants.{Table}
 use Rattle.expr.specs.Number.{number_of}
-use Rattle.expr.specs.Token.{Token}
+use Rattle.expr.specs.declared.token.Token.{Token}
 use Rattle.expr.specs.Expr.{below, Whole, parse}
 use Rattle.file.specs.Outcome.{Kind, Assume, Assert}
 use Rattle.file.specs.File.{Body, Good, Bad, frame, record_of}

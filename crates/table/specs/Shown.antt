@@ -1,6 +1,6 @@
 -- What the code's values mean: its answers as functions of the definitions.
 use Rattle.std.specs.Prelude.{ℕ, ◌+◌, ◌≡◌, cond, List, get_or, eqb}
-use Rattle.expr.specs.Token.{Token}
+use Rattle.expr.specs.declared.token.Token.{Token}
 use Rattle.expr.specs.Eval.{Env, env_of, value}
 use Rattle.file.specs.Outcome.{Lost, verdict, place_of}
 use Rattle.file.specs.File.{Body, Good, Bad}

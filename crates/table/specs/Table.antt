@@ -1,7 +1,7 @@
 -- Document 01, "Table and trace bytes": a table's instructions, and the reading of any bytes as a table.
 use Rattle.std.specs.Prelude.{ℕ, Bool, cond, List, [], ◌∷◌, eqb, leb, ltb}
 use Rattle.expr.specs.declared.File.TheVariants.{Table}
-use Rattle.expr.specs.Token.{Token}
+use Rattle.expr.specs.declared.token.Token.{Token}
 use Rattle.expr.specs.Expr.{below, parse}
 use Rattle.file.specs.Outcome.{Kind, Assume, Assert}
 use Rattle.file.specs.File.{Head, AtRecord, Body, Bad, field, rule, holding, Records, records, Input, read_file}

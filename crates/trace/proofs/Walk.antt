@@ -9,7 +9,7 @@ use lib.Seq.{get_or-set_same, get_or-set_other}
 use lib.Dec.{eqb, ltb}
 use borrow.Author.Tests.{eqb-true, eqb-false}
 use Rattle.expr.specs.Lists.{or_right, or_false}
-use Rattle.expr.specs.Token.{Token}
+use Rattle.expr.specs.declared.token.Token.{Token}
 use Rattle.expr.specs.Expr.{readable}
 use Rattle.file.specs.File.{input_room, header_size, Body, Good, frame, record_of}
 use Rattle.file.proofs.FileLaws.{same_everywhere}

@@ -5,7 +5,8 @@ use Rattle.expr.specs.declared.File.TheVariants.{Trace}
 use Rattle.expr.specs.Lists.{All, all_drop, or_left, or_right}
 use Rattle.expr.specs.Number.{Byte, number_of, bytes_of}
 use Rattle.expr.specs.NumberLaws.{bytes_read}
-use Rattle.expr.specs.Token.{Token, expr_bytes}
+use Rattle.expr.specs.declared.token.Token.{Token}
+use Rattle.expr.specs.Token.{expr_bytes}
 use Rattle.expr.specs.Expr.{Whole, parse}
 use Rattle.expr.proofs.ExprLaws.{parse-accepted, parse-written}
 use Rattle.file.specs.File.{Head, head_size, input_room, inputs_limit, Good, Accepted}

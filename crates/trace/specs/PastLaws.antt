@@ -5,7 +5,7 @@ use Rattle.std.proofs.Common.{arith, sym, ◌∙◌, eqb-true, ltb-true}
 use Rattle.expr.specs.declared.File.TheVariants.{Trace}
 use Rattle.expr.specs.Lists.{All, or_cases}
 use Rattle.expr.specs.Word.{Word}
-use Rattle.expr.specs.Token.{Token}
+use Rattle.expr.specs.declared.token.Token.{Token}
 use Rattle.expr.specs.Eval.{Env, env_of, update, value}
 use Rattle.expr.proofs.EvalLaws.{update_same, update_other, reads_known, value_agree, value_word}
 use Rattle.file.specs.File.{Head}

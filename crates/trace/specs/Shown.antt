@@ -1,6 +1,6 @@
 -- What the code's values mean: its answers as functions of the definitions.
 use Rattle.std.specs.Prelude.{ℕ, suc, ◌+◌, ◌≡◌, Bool, true, cond, ◌||◌, List, get_or, set, eqb}
-use Rattle.expr.specs.Token.{Token}
+use Rattle.expr.specs.declared.token.Token.{Token}
 use Rattle.expr.specs.Expr.{below, readable}
 use Rattle.expr.specs.Eval.{Env, env_of, update, value}
 use Rattle.expr.specs.Word.{truthy}

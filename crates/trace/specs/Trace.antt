@@ -2,7 +2,8 @@
 use Rattle.std.specs.Prelude.{ℕ, suc, ◌+◌, Bool, false, cond, ◌&&◌, ◌||◌, List, [], ◌∷◌, ◌++◌, eqb, leb, ltb}
 use Rattle.expr.specs.declared.File.TheVariants.{Trace}
 use Rattle.expr.specs.Number.{bytes_of}
-use Rattle.expr.specs.Token.{Token, expr_bytes}
+use Rattle.expr.specs.declared.token.Token.{Token}
+use Rattle.expr.specs.Token.{expr_bytes}
 use Rattle.expr.specs.Expr.{below, parse}
 use Rattle.expr.specs.Eval.{reads}
 use Rattle.file.specs.Outcome.{Kind, Assume, Assert, Bound}

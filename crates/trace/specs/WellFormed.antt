@@ -5,7 +5,7 @@ use Rattle.expr.specs.declared.File.TheVariants.{Trace}
 use Rattle.expr.specs.Lists.{All, all_take, all_drop}
 use Rattle.expr.specs.Number.{Byte}
 use Rattle.expr.specs.NumberLaws.{number_lt}
-use Rattle.expr.specs.Token.{Token}
+use Rattle.expr.specs.declared.token.Token.{Token}
 use Rattle.expr.specs.Expr.{Whole, parse}
 use Rattle.expr.specs.TokenLaws.{Holds}
 use Rattle.expr.proofs.ExprLaws.{parse-accepted}

@@ -7,7 +7,7 @@
 use Rattle.std.specs.Prelude.{ℕ, ◌≡◌, refl, List, [], ◌∷◌, length}
 use Rattle.std.proofs.Common.{arith, ap, ◌∙◌}
 use Rattle.expr.specs.Lists.{All}
-use Rattle.expr.specs.Token.{Const}
+use Rattle.expr.specs.declared.token.Token.TheVariants.{Const}
 use Rattle.expr.specs.Eval.{Env, env_of, update}
 use Rattle.expr.proofs.EvalLaws.{value-top, update_same, update_other}
 use Rattle.file.specs.Outcome.{Kind, Assume, Assert, Bound, Outcome, Ended, Failed, Lost}

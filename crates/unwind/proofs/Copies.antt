@@ -10,7 +10,7 @@ use mathlib.Core.List.{List, [], ◌∷◌, ◌++◌, append-nil}
 use lib.ListN.{length, drop, get_or, length-drop, length-append, drop_of_length-le}
 use Rattle.expr.specs.Lists.{All, drop-next}
 use Rattle.expr.specs.Number.{Byte}
-use Rattle.expr.specs.Token.{Const, Symbol}
+use Rattle.expr.specs.declared.token.Token.TheVariants.{Const, Symbol}
 use Rattle.file.specs.Outcome.{Bound}
 use Rattle.file.specs.File.{header_inputs, Body, record_of, record_bytes, records_bytes}
 use Rattle.file.proofs.EncodeLaws.{records-append}

@@ -9,7 +9,9 @@ use lib.ListN.{length, drop, get_or, length-append}
 use Rattle.expr.specs.declared.File.TheVariants.{Table, Trace}
 use Rattle.expr.specs.declared.token.Read.{Read}
 use Rattle.expr.specs.declared.token.Read.TheVariants as R
-use Rattle.expr.specs.Token.{Token, Const, Symbol, Un, Bin, Ite, token_bytes, expr_bytes, read_token}
+use Rattle.expr.specs.declared.token.Token.{Token}
+use Rattle.expr.specs.declared.token.Token.TheVariants.{Const, Symbol, Un, Bin, Ite}
+use Rattle.expr.specs.Token.{token_bytes, expr_bytes, read_token}
 use Rattle.expr.specs.Expr.{below, parse}
 use Rattle.expr.specs.Eval.{rename}
 use Rattle.expr.specs.Shown.{shown_token, read_size, is_whole, tokens_of, size_of}

@@ -7,8 +7,11 @@ use Rattle.std.proofs.Math.Path.{refl, ap}
 use mathlib.Core.List.{List, [], ◌∷◌, ◌++◌}
 use Rattle.std.proofs.lemmas.Bool.{lt-leb}
 use Rattle.expr.specs.Lists.{All, all_drop, drop-next}
-use Rattle.expr.specs.Word.{Zero, Ule, truthy, test, binary}
-use Rattle.expr.specs.Token.{Token, Const, Symbol, Un, Ite}
+use Rattle.expr.specs.declared.word.Unary.TheVariants.{Zero}
+use Rattle.expr.specs.declared.word.Binary.TheVariants.{Ule}
+use Rattle.expr.specs.Word.{truthy, test, binary}
+use Rattle.expr.specs.declared.token.Token.{Token}
+use Rattle.expr.specs.declared.token.Token.TheVariants.{Const, Symbol, Un, Ite}
 use Rattle.expr.specs.Expr.{below}
 use Rattle.expr.specs.Eval.{Env, env_of, update, eval, value, rename}
 use Rattle.expr.specs.OperatorLaws.{zero_tests, ule_tests}

@@ -3,8 +3,10 @@
 use Rattle.std.specs.Prelude.{ℕ, zero, suc, ◌+◌, ◌*◌, ◌≡◌, refl, Bool, true, false, cond, not, ◌&&◌, List, [], ◌∷◌, ◌++◌, length, leb, ltb}
 use Rattle.std.proofs.Common.{arith, ap, ◌∙◌, length-append, le-ltb, lt-ltb}
 use Rattle.expr.specs.declared.File.TheVariants.{Trace}
-use Rattle.expr.specs.Word.{Zero}
-use Rattle.expr.specs.Token.{Token, Const, Symbol, Un, Bin, Ite, operands, token_bytes, expr_bytes}
+use Rattle.expr.specs.declared.word.Unary.TheVariants.{Zero}
+use Rattle.expr.specs.declared.token.Token.{Token}
+use Rattle.expr.specs.declared.token.Token.TheVariants.{Const, Symbol, Un, Bin, Ite}
+use Rattle.expr.specs.Token.{operands, token_bytes, expr_bytes}
 use Rattle.expr.specs.TokenLaws.{bytes-append}
 use Rattle.expr.specs.Eval.{rename}
 use Rattle.file.specs.Outcome.{Kind, Bound}

@@ -6,8 +6,10 @@ use Rattle.std.specs.Prelude.{eqb, leb, ltb}
 use Rattle.std.proofs.Common.{arith, mul-le-mul_right, ap, ◌∙◌, length-append, eq-eqb, lt-ltb, ltb-true}
 use Rattle.expr.specs.declared.File.TheVariants.{Table, Trace}
 use Rattle.expr.specs.Lists.{All, or_left, or_right, all_append}
-use Rattle.expr.specs.Word.{Zero, Ule}
-use Rattle.expr.specs.Token.{Token, Const, Symbol, Un, Bin, Ite}
+use Rattle.expr.specs.declared.word.Unary.TheVariants.{Zero}
+use Rattle.expr.specs.declared.word.Binary.TheVariants.{Ule}
+use Rattle.expr.specs.declared.token.Token.{Token}
+use Rattle.expr.specs.declared.token.Token.TheVariants.{Const, Symbol, Un, Bin, Ite}
 use Rattle.expr.specs.TokenLaws.{Holds}
 use Rattle.expr.specs.Expr.{below, pops, fits}
 use Rattle.expr.proofs.ExprLaws.{fits-is, fits_const, fits-symbol, fits-operator, ok-append, ok-rename}

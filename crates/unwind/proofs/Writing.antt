@@ -12,8 +12,9 @@ use lib.Dec.{eqb, leb, ltb}
 use borrow.Author.Tests.{eqb-true, eqb-false, le-leb, lt-leb, lt-ltb, le-ltb}
 use Rattle.expr.specs.declared.File.TheVariants.{Table}
 use Rattle.expr.specs.Number.{number_of}
-use Rattle.expr.specs.Word.{Zero}
-use Rattle.expr.specs.Token.{Token, Const, Symbol, Un, Ite}
+use Rattle.expr.specs.declared.word.Unary.TheVariants.{Zero}
+use Rattle.expr.specs.declared.token.Token.{Token}
+use Rattle.expr.specs.declared.token.Token.TheVariants.{Const, Symbol, Un, Ite}
 use Rattle.expr.specs.Expr.{below, Whole, parse}
 use Rattle.expr.specs.Eval.{update, rename}
 use Rattle.expr.specs.Shown.{is_whole, tokens_of}

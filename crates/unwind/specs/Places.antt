@@ -1,7 +1,8 @@
 -- Document 01, "The trace under bound K": the places of the unwound rule, K+1 copies of its instructions, each with its exit.
 use Rattle.std.specs.Prelude.{ℕ, zero, suc, ◌*◌, cond, List, [], ◌∷◌, ◌++◌, length, leb, ltb}
-use Rattle.expr.specs.Word.{Zero}
-use Rattle.expr.specs.Token.{Token, Un}
+use Rattle.expr.specs.declared.word.Unary.TheVariants.{Zero}
+use Rattle.expr.specs.declared.token.Token.{Token}
+use Rattle.expr.specs.declared.token.Token.TheVariants.{Un}
 use Rattle.file.specs.Outcome.{Kind, Bound}
 use Rattle.table.specs.Table.{Instr, Assign, Test, IfThenGoto}
 use Rattle.table.specs.Run.{place_in}

@@ -2,7 +2,8 @@
 use Rattle.std.specs.Prelude.{ℕ, ◌≡◌, Bool, List, [], get_or}
 use Rattle.std.proofs.Math.Option.{Option, none, some}
 use Rattle.expr.specs.declared.File.TheVariants.{Trace}
-use Rattle.expr.specs.Token.{Token, token_bytes}
+use Rattle.expr.specs.declared.token.Token.{Token}
+use Rattle.expr.specs.Token.{token_bytes}
 use Rattle.expr.specs.Expr.{below}
 use Rattle.expr.specs.Eval.{rename_token}
 use Rattle.file.specs.Outcome.{Bound}

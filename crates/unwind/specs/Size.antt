@@ -1,7 +1,8 @@
 -- How many bytes a trace has, from its table and the bound: known before the first byte is written.
 use Rattle.std.specs.Prelude.{ℕ, suc, ◌+◌, ◌*◌, Bool, true, false, cond, ◌&&◌, List, [], ◌∷◌, length, leb}
 use Rattle.expr.specs.declared.File.TheVariants.{Trace}
-use Rattle.expr.specs.Token.{Token, expr_bytes}
+use Rattle.expr.specs.declared.token.Token.{Token}
+use Rattle.expr.specs.Token.{expr_bytes}
 use Rattle.file.specs.File.{head_size}
 use Rattle.trace.specs.Trace.{trace_version}
 use Rattle.table.specs.Table.{Instr, Assign, Test, IfThenGoto}

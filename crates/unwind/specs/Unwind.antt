@@ -1,7 +1,8 @@
 -- Document 01, "The trace under bound K": one opening statement, then one for each place, rising.
 use Rattle.std.specs.Prelude.{ℕ, suc, List, [], ◌∷◌, ◌++◌}
-use Rattle.expr.specs.Word.{Ule}
-use Rattle.expr.specs.Token.{Token, Const, Symbol, Bin, Ite}
+use Rattle.expr.specs.declared.word.Binary.TheVariants.{Ule}
+use Rattle.expr.specs.declared.token.Token.{Token}
+use Rattle.expr.specs.declared.token.Token.TheVariants.{Const, Symbol, Bin, Ite}
 use Rattle.expr.specs.Eval.{update, rename}
 use Rattle.file.specs.Outcome.{Kind, Assume, Assert, Bound}
 use Rattle.table.specs.Table.{Instr}

@@ -2,8 +2,10 @@
 ghost use Rattle.std.specs.Prelude.{◌≡◌, true, [], ◌∷◌, ◌++◌, ◌+◌, ◌-◌, ◌≤◌, ◌<◌, length};
 ghost use Rattle.expr.specs.declared.File.TheVariants.{Table, Trace};
 ghost use Rattle.expr.specs.Number.{bytes_of};
-ghost use Rattle.expr.specs.Word.{Zero, Ule};
-ghost use Rattle.expr.specs.Token.{Const, Symbol, Un, Bin, Ite, expr_bytes};
+ghost use Rattle.expr.specs.declared.word.Unary.TheVariants.{Zero};
+ghost use Rattle.expr.specs.declared.word.Binary.TheVariants.{Ule};
+ghost use Rattle.expr.specs.declared.token.Token.TheVariants.{Const, Symbol, Un, Bin, Ite};
+ghost use Rattle.expr.specs.Token.{expr_bytes};
 ghost use Rattle.expr.specs.Expr.{below, parse};
 ghost use Rattle.expr.specs.Eval.{rename};
 ghost use Rattle.expr.specs.Shown.{is_whole, tokens_of};

@@ -4,7 +4,8 @@
 ghost use Rattle.std.specs.Prelude.{[], ◌∷◌, ◌≡◌, ◌+◌, ◌^◌, ◌≤◌, ◌<◌, length, set};
 ghost use Rattle.expr.specs.declared.File.TheVariants.{Trace};
 ghost use Rattle.expr.specs.Number.{bytes_of};
-ghost use Rattle.expr.specs.Token.{Const, Symbol, token_bytes};
+ghost use Rattle.expr.specs.declared.token.Token.TheVariants.{Const, Symbol};
+ghost use Rattle.expr.specs.Token.{token_bytes};
 ghost use Rattle.file.specs.File.{head_size, inputs_limit, header_version, header_size, header_inputs, head_of, header};
 ghost use Rattle.write.specs.Splice.{Wrote};
 ghost use Rattle.write.specs.Decimal.{decimal};

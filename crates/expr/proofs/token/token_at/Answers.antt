@@ -1,6 +1,7 @@
 use Rattle.std.proofs.Common.{sym, ap, ◌∙◌, arith}
 use Rattle.std.specs.Prelude.{Option, Some}
-use Rattle.expr.specs.Token.{Token, Const, Symbol}
+use Rattle.expr.specs.declared.token.Token.{Token}
+use Rattle.expr.specs.declared.token.Token.TheVariants.{Const, Symbol}
 use Rattle.expr.proofs.Reading.{constant-short, constant-there, symbol-short, symbol-there, operator-there}
 use Rattle.expr.proofs.token.token_at.Goals as goal
 

@@ -1,7 +1,8 @@
 -- Each arm writes what stands in front of its code's variables; the last one's code can only be the choice's.
 use Rattle.std.proofs.Common.{refl, rules}
-use Rattle.expr.specs.Word.{Not, Neg, Zero, Add, Sub, Mul, Udiv, Urem, And, Or, Xor, Shl, Lshr, Equal, Ult, Ule, Slt}
-use Rattle.expr.specs.Token.{Un, Bin, Ite}
+use Rattle.expr.specs.declared.word.Unary.TheVariants.{Not, Neg, Zero}
+use Rattle.expr.specs.declared.word.Binary.TheVariants.{Add, Sub, Mul, Udiv, Urem, And, Or, Xor, Shl, Lshr, Equal, Ult, Ule, Slt}
+use Rattle.expr.specs.declared.token.Token.TheVariants.{Un, Bin, Ite}
 use Rattle.expr.proofs.Steps.{only-ite}
 use Rattle.script.proofs.Operators.{fronted}
 use Rattle.script.proofs.operator.put_front.Goals as goal

@@ -5,7 +5,8 @@ use mathlib.Core.Path.{◌≡◌, ap, ◌∙◌}
 use mathlib.Core.Option.{Option}
 use lib.ListN.{drop}
 use Rattle.expr.specs.declared.File.TheVariants.{Trace}
-use Rattle.expr.specs.Token.{Token, read_token}
+use Rattle.expr.specs.declared.token.Token.{Token}
+use Rattle.expr.specs.Token.{read_token}
 use Rattle.expr.specs.Shown.{popped}
 use Rattle.expr.proofs.Reading.{read-size}
 use Rattle.write.specs.SpliceLaws.{◌then◌, wrote_as}

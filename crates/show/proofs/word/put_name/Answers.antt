@@ -1,7 +1,8 @@
 -- Each arm writes its code's name; the last one's code can only be the choice's.
 use Rattle.std.proofs.Common.{refl, rules}
-use Rattle.expr.specs.Word.{Not, Neg, Zero, Add, Sub, Mul, Udiv, Urem, And, Or, Xor, Shl, Lshr, Equal, Ult, Ule, Slt}
-use Rattle.expr.specs.Token.{Un, Bin, Ite}
+use Rattle.expr.specs.declared.word.Unary.TheVariants.{Not, Neg, Zero}
+use Rattle.expr.specs.declared.word.Binary.TheVariants.{Add, Sub, Mul, Udiv, Urem, And, Or, Xor, Shl, Lshr, Equal, Ult, Ule, Slt}
+use Rattle.expr.specs.declared.token.Token.TheVariants.{Un, Bin, Ite}
 use Rattle.expr.proofs.Steps.{only-ite}
 use Rattle.show.proofs.Names.{named}
 use Rattle.show.proofs.word.put_name.Goals as goal

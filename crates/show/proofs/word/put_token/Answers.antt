@@ -8,7 +8,8 @@ use lib.ListN.{drop}
 use Rattle.expr.specs.declared.File.TheVariants.{Trace}
 use Rattle.expr.specs.declared.token.Read.{Read}
 use Rattle.expr.specs.declared.token.Read.TheVariants as R
-use Rattle.expr.specs.Token.{Token, read_token}
+use Rattle.expr.specs.declared.token.Token.{Token}
+use Rattle.expr.specs.Token.{read_token}
 use Rattle.expr.specs.Shown.{shown_token, read_size, size_of}
 use Rattle.expr.proofs.Reading.{read-size, shown-operator}
 use Rattle.expr.proofs.Steps.{symbol-below}

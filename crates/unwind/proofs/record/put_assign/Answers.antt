@@ -3,7 +3,9 @@ use mathlib.Core.Path.{◌≡◌}
 use lib.ListN.{length}
 use Rattle.expr.specs.declared.File.TheVariants.{Table, Trace}
 use mathlib.Core.List.{List}
-use Rattle.expr.specs.Token.{Token, Symbol, expr_bytes}
+use Rattle.expr.specs.declared.token.Token.{Token}
+use Rattle.expr.specs.declared.token.Token.TheVariants.{Symbol}
+use Rattle.expr.specs.Token.{expr_bytes}
 use Rattle.expr.specs.Expr.{below, parse}
 use Rattle.expr.specs.Shown.{tokens_of}
 use Rattle.expr.specs.Eval.{rename}

@@ -2,7 +2,7 @@ use Rattle.write.specs.SpliceLaws.{◌then◌}
 use mathlib.Core.Path.{refl}
 use Rattle.unwind.proofs.Records.{closes}
 use mathlib.Core.List.{[], ◌∷◌}
-use Rattle.expr.specs.Token.{Const, Symbol}
+use Rattle.expr.specs.declared.token.Token.TheVariants.{Const, Symbol}
 use Rattle.trace.specs.Trace.{Assign}
 use Rattle.unwind.specs.Unwind.{guarded}
 use Rattle.unwind.proofs.record.put_exit.Goals as goal

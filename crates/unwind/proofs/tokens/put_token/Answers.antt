@@ -8,7 +8,9 @@ use lib.ListN.{length, drop, get_or}
 use Rattle.expr.specs.declared.File.TheVariants.{Table, Trace}
 use Rattle.expr.specs.declared.token.Read.{Read}
 use Rattle.expr.specs.declared.token.Read.TheVariants as R
-use Rattle.expr.specs.Token.{Token, Symbol, token_bytes, read_token}
+use Rattle.expr.specs.declared.token.Token.{Token}
+use Rattle.expr.specs.declared.token.Token.TheVariants.{Symbol}
+use Rattle.expr.specs.Token.{token_bytes, read_token}
 use Rattle.expr.specs.Shown.{size_of}
 use Rattle.expr.proofs.Reading.{read-size}
 use Rattle.expr.proofs.Steps.{symbol-below}

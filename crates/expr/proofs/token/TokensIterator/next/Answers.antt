@@ -1,6 +1,7 @@
 -- One token is read off the bytes that are left.
 use Rattle.std.proofs.Common.{◌≡◌, List, ◌∷◌, length, refl, sym, ap, ◌∙◌, arith, eqb-true, Some}
-use Rattle.expr.specs.Token.{Token, read_token}
+use Rattle.expr.specs.declared.token.Token.{Token}
+use Rattle.expr.specs.Token.{read_token}
 use Rattle.expr.specs.Shown.{tokens_from}
 use Rattle.expr.proofs.Reading.{token-inside, tokens-empty, tokens-none, tokens-some}
 use Rattle.expr.proofs.token.TokensIterator.next.Goals.{In_ok-t, After-split_at}

@@ -1,7 +1,0 @@
-use Rattle.expr.specs.Word.{binary}
-use Rattle.std.proofs.Common.{rules}
-use Rattle.expr.proofs.word.mul.Goals as goal
-
-pub returns : goal.returns
-unfolding binary
-returns c = search rules
