@@ -5,9 +5,18 @@ use Rattle.expr.specs.declared.File.{File}
 use Rattle.expr.specs.declared.token.Tokens.{Tokens}
 use Rattle.expr.specs.declared.token.Token.{Token}
 use Rattle.expr.specs.Token.{operand_count, read_token}
-use Rattle.expr.specs.Expr.{depth_limit, after, Parsed, Whole, Breaks, parse_from, parse, Ok}
+use Rattle.expr.specs.Expr.{depth_limit, reads_only, after, Parsed, Whole, Breaks, parse_from, parse, Ok}
 use Rattle.expr.specs.Shown.{token_then, tokens_from, tokens_left, is_whole, tokens_of}
-use Rattle.expr.proofs.ExprLaws.{took}
+use Rattle.expr.specs.Lists.{All}
+use Rattle.expr.proofs.ExprLaws.{fits-is, took}
+
+-- each token reads only what may be read
+abbrev pub Known : (may : ℕ → Bool) → List Token → Type 0
+Known may e = All (λ t. reads_only may t ≡ true) e
+
+pub ok-known : (may : ℕ → Bool) (limit d z : ℕ) (e : List Token) → Ok may limit d z e → Known may e
+ok-known may limit d z [] o = tt
+ok-known may limit d z (t ∷ e) o = ((fits-is may limit d t o.0).known, ok-known may limit (after d t) z e o.1)
 
 module _ (F : File) (may : ℕ → Bool) where
   -- the tokens e, behind `skip` bytes, from d words to one
@@ -34,7 +43,7 @@ module _ (F : File) (may : ℕ → Bool) where
         ok = subst (Ok may (depth_limit F) d 1) (sym k.is) (k.fit, w.ok);
       }
 
-  whole : (p : Parsed) → is_whole p ≡ true → p ≡ Whole (tokens_of p)
+  pub whole : (p : Parsed) → is_whole p ≡ true → p ≡ Whole (tokens_of p)
   whole (Whole e) h = refl
   whole (Breaks bs) h = absurd (let z : ◌≡◌ {A = ℕ} 0 1 = cc in omega arith)
 
@@ -48,3 +57,6 @@ module _ (F : File) (may : ℕ → Bool) where
 
     pub tokens-ok : Ok may (depth_limit F) 0 1 (tokens_of (parse F may bs))
     tokens-ok = walked.ok
+
+    pub tokens-known : Known may (tokens_of (parse F may bs))
+    tokens-known = ok-known may (depth_limit F) 0 1 (tokens_of (parse F may bs)) tokens-ok

@@ -1,6 +1,5 @@
 -- What the code's values mean: its answers as functions of the definitions.
 use Rattle.std.specs.Prelude.{ℕ, ◌≡◌, Bool, List, [], get_or}
-use Rattle.std.proofs.Math.Option.{Option, none, some}
 use Rattle.expr.specs.declared.File.TheVariants.{Trace}
 use Rattle.expr.specs.declared.token.Token.{Token}
 use Rattle.expr.specs.Token.{token_bytes}
@@ -32,11 +31,6 @@ newest_of names control next = record { current = current_of names; control = co
 -- every symbol that a table can have
 abbrev pub known : ℕ → Bool
 known = below input_room
-
--- the bytes of a token in a trace
-abbrev pub renamed_bytes : (ℕ → ℕ) → Option Token → List ℕ
-renamed_bytes f none = []
-renamed_bytes f (some t) = token_bytes Trace (rename_token f t)
 
 -- ---- places
 

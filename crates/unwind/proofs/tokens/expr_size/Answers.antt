@@ -1,30 +1,44 @@
-use native.Mathlib.Omega.{arith}
-use Rattle.expr.specs.declared.File.TheVariants.{Table, Trace}
-use Rattle.expr.specs.Shown.{read_size}
-use Rattle.expr.proofs.Steps.{stands-size}
-use Rattle.expr.proofs.Rests.{stands}
-use Rattle.file.specs.File.{input_room}
-use Rattle.unwind.proofs.Exprs.{MeasureOn, measuring_start, measure_on, measured}
+-- Each token adds its bytes; all of them are at most twice as many as the table has.
+use Rattle.std.proofs.Common.{◌≡◌, ◌*◌, ◌≤◌, refl, sym, ap, ◌∙◌, length, arith}
+use Rattle.expr.specs.declared.File.TheVariants.{Table}
+use Rattle.expr.specs.declared.token.Tokens.{Tokens}
+use Rattle.expr.specs.Lists.{All, all-at}
+use Rattle.expr.specs.Number.{Byte}
+use Rattle.expr.specs.Token.{expr_bytes}
+use Rattle.expr.specs.Expr.{parse}
+use Rattle.expr.specs.Shown.{tokens_left, tokens_of}
+use Rattle.expr.proofs.Walks.{tokens-given, whole}
+use Rattle.expr.proofs.ExprLaws.{parse-accepted}
+use Rattle.unwind.specs.Size.{expr_size}
+use Rattle.unwind.specs.Shown.{known}
+use Rattle.unwind.proofs.Exprs.{little, size_on}
+use Rattle.unwind.proofs.tokens.expr_size.Goals.{After-into_iter-t-iterator}
 use Rattle.unwind.proofs.tokens.expr_size.Goals as goal
-use Rattle.unwind.proofs.tokens.expr_size.Goals.{After-token_here-t}
 
-pub loop-i-init : goal.loop-i-init
-loop-i-init c = measuring_start _ c.requires.0
+small : (c : After-into_iter-t-iterator) → expr_size (tokens_of (parse Table known c.args.e.now)) ≤ 2 * length c.args.e.now
+small c =
+    let bytes : All Byte c.args.e.now = all-at Byte c.args.e.now (λ i h. (c.type_inv.e i).fits) in
+    let a = parse-accepted Table known c.args.e.now _ bytes (whole Table known _ c.requires.0) in
+    omega (arith, little (tokens_of (parse Table known c.args.e.now)), ap length a.bytes)
 
-pub token_here-t-requires : goal.token_here-t-requires
-token_here-t-requires c = let v = c.loop-i.invariant in let h = c.loop-i-test.true in
-    (h, stands-size Table input_room c.args.e.now c.loop-i.i (stands v.rest h))
+pub loop-t-init : goal.loop-t-init
+loop-t-init c =
+    let q = ap expr_size (ap (λ (r : Tokens). tokens_left r) c.into_iter-t-iterator.ensures.into_iter_gives
+    ∙ tokens-given Table known _ c.requires.0 _ _ c.new-t-items.ensures.rest c.new-t-items.ensures.file refl) in
+    omega (arith, q)
 
-on : (c : After-token_here-t) → MeasureOn c.loop-i.invariant
-    (read_size Table c.token_here-t.result) (read_size Trace c.token_here-t.result)
-on c = measure_on c.loop-i.invariant c.loop-i-test.true c.token_here-t.ensures
+pub overflow_add-size : goal.overflow_add-size
+overflow_add-size c = record {
+  fits =
+      omega (arith, c.requires.1, c.loop-t.invariant, c.size-size.ensures, size_on _ _ _ c.in-Some.ensures.steps,
+      small (goal.at.overflow_add-size c).After-into_iter-t-iterator);
+}
 
-pub loop-i-smaller : goal.loop-i-smaller
-loop-i-smaller c = let k = on (goal.at.loop-i-smaller c).After-token_here-t in omega
-    (arith, c.size_of-i.ensures, k.then.rest.inside, k.some_byte)
-
-pub loop-i-preserved : goal.loop-i-preserved
-loop-i-preserved c = rw (c.size_of-i.ensures, c.size_of-size.ensures) (on (goal.at.loop-i-preserved c).After-token_here-t).then
+pub loop-t-preserved : goal.loop-t-preserved
+loop-t-preserved c = omega (arith, c.loop-t.invariant, c.size-size.ensures, size_on _ _ _ c.in-Some.ensures.steps)
 
 pub returns : goal.returns
-returns c = let v = c.loop-i.invariant in (measured v c.loop-i-test.false, omega (arith, v.little, v.rest.inside))
+returns c =
+    let q : c.loop-t.size ≡ expr_size (tokens_of (parse Table known c.args.e.now)) =
+    omega (arith, c.loop-t.invariant, ap expr_size c.in-None.ensures.steps.0) in
+    (q, omega (arith, q, small (goal.at.returns c).After-into_iter-t-iterator))

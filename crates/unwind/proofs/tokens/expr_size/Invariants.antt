@@ -1,11 +1,11 @@
--- Each turn leaves fewer bytes; what is measured and what is left make the whole (`Measuring`).
-use Prim.Native.Nat.{◌-◌}
-use lib.ListN.{length}
-use Rattle.unwind.proofs.Exprs.{Measuring}
+-- What is measured and what is left make the whole.
+use Rattle.std.proofs.Common.{◌≡◌, ◌+◌}
+use Rattle.expr.specs.declared.File.TheVariants.{Table}
+use Rattle.expr.specs.Expr.{parse}
+use Rattle.expr.specs.Shown.{tokens_left, tokens_of}
+use Rattle.unwind.specs.Size.{expr_size}
+use Rattle.unwind.specs.Shown.{known}
 use Rattle.unwind.proofs.tokens.expr_size.Given as goal
 
-abbrev pub invariant-loop-i : goal.invariant-loop-i
-invariant-loop-i l = Measuring l.e l.i l.size
-
-abbrev pub decreases-loop-i : goal.decreases-loop-i
-decreases-loop-i l = length l.e - l.i
+abbrev pub invariant-loop-t : goal.invariant-loop-t
+invariant-loop-t l = l.size + expr_size (tokens_left l.t-iterator) ≡ expr_size (tokens_of (parse Table known l.fn.e))

@@ -1,30 +1,26 @@
-use native.Mathlib.Omega.{arith}
-use Rattle.expr.proofs.Rests.{stands}
-use Rattle.unwind.proofs.Exprs.{PutOn, putting_start, putting_room, put_on, put_all}
+-- Each token is written where the one before it ends.
+use Rattle.std.proofs.Common.{refl, ap, ◌∙◌}
+use Rattle.expr.specs.declared.File.TheVariants.{Table}
+use Rattle.expr.specs.declared.token.Tokens.{Tokens}
+use Rattle.expr.specs.Shown.{tokens_left}
+use Rattle.expr.proofs.Walks.{tokens-given}
+use Rattle.unwind.proofs.Exprs.{putting_start, putting_room, putting_known, put_on, put_all}
 use Rattle.unwind.proofs.tokens.put_tokens.Goals as goal
-use Rattle.unwind.proofs.tokens.put_tokens.Goals.{After-struct_known-1}
 
-pub loop-i-init : goal.loop-i-init
-loop-i-init c = putting_start _ _ _ _ c.requires.0
+pub loop-t-init : goal.loop-t-init
+loop-t-init c =
+    putting_start c.args.names.now c.args.e.now c.args.out.now c.args.at _ c.requires.0
+    (ap (λ (r : Tokens). tokens_left r) c.into_iter-t-iterator.ensures.into_iter_gives
+    ∙ tokens-given Table _ _ c.requires.0 _ _ c.new-t-items.ensures.rest c.new-t-items.ensures.file refl)
 
-on : (c : After-struct_known-1) → PutOn c.loop-i.invariant
-    c.loop-i-test.true c.put_token-p.new.out
-    c.put_token-p.result.size c.put_token-p.result.to
-on c =
-    put_on c.loop-i.invariant c.loop-i-test.true
-    c.put_token-p.ensures
+pub put_token-to-requires-clause-known : goal.put_token-to-requires-clause-known
+put_token-to-requires-clause-known c = putting_known _ c.loop-t.invariant c.in-Some.ensures.steps
 
-pub put_token-p-requires : goal.put_token-p-requires
-put_token-p-requires c = let v = c.loop-i.invariant in let h = c.loop-i-test.true in
-    (h, stands v.rest h, putting_room v h c.requires.1)
+pub put_token-to-requires-clause-room : goal.put_token-to-requires-clause-room
+put_token-to-requires-clause-room c = putting_room _ c.loop-t.invariant c.in-Some.ensures.steps c.requires.1
 
-pub loop-i-smaller : goal.loop-i-smaller
-loop-i-smaller c =
-    let place = (goal.at.loop-i-smaller c).After-struct_known-1 in
-    omega (arith, (on place).then.rest.inside, (on place).some_byte)
-
-pub loop-i-preserved : goal.loop-i-preserved
-loop-i-preserved c = (on (goal.at.loop-i-preserved c).After-struct_known-1).then
+pub loop-t-preserved : goal.loop-t-preserved
+loop-t-preserved c = put_on _ c.loop-t.invariant c.in-Some.ensures.steps c.put_token-to.ensures
 
 pub returns : goal.returns
-returns c = put_all c.loop-i.invariant c.loop-i-test.false
+returns c = put_all _ c.loop-t.invariant c.in-None.ensures.steps.0
