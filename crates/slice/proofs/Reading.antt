@@ -1,65 +1,49 @@
--- The symbols that an expression reads: what marking the token at a place leaves, and the loop over the tokens.
-use Prim.Native.Nat.{ℕ, ◌+◌, ◌≤◌, ◌<◌}
-use mathlib.Core.Path.{◌≡◌, refl, sym, ap, ◌∙◌}
-use mathlib.Core.Bool.{Bool, true, false, ◌||◌}
-use mathlib.Core.List.{List}
-use lib.ListN.{length, drop}
+-- The loop over the tokens of an expression: what is marked, with what the tokens that are left read, is what the expression reads.
+use Rattle.std.proofs.Common.{◌≡◌, ℕ, true, false, Bool, ◌||◌, List, [], ◌∷◌, length, refl, sym, ap, ◌∙◌, subst}
 use Rattle.expr.specs.declared.File.TheVariants.{Trace}
-use Rattle.expr.specs.Token.{read_token}
-use Rattle.expr.specs.Expr.{below, parse}
+use Rattle.expr.specs.declared.token.Token.{Token}
+use Rattle.expr.specs.Expr.{below, reads_only, parse}
 use Rattle.expr.specs.Eval.{reads_token, reads}
-use Rattle.expr.specs.Shown.{is_whole, tokens_of, size_of}
-use Rattle.expr.proofs.Rests.{Rest, tokens, rest-start, turn, rest_end}
-use Rattle.slice.specs.Shown.{in_set, room_in, reads_read}
+use Rattle.expr.specs.Shown.{is_whole, tokens_of}
+use Rattle.expr.proofs.Walks.{Known, tokens-known}
+use Rattle.slice.specs.Shown.{in_set, room_in}
+use Rattle.slice.proofs.Marks.{same-room}
 
--- ---- a token
-
--- the token at a place has m bytes, and what it reads is marked
-abbrev Marks : (e : List ℕ) (i m : ℕ) (needed needed' : List ℕ) → Type 0
-Marks e i m needed needed' =
-    (m ≡ size_of Trace (read_token Trace (drop i e)))
-    × ((x : ℕ) → in_set needed' x ≡ (reads_read x (read_token Trace (drop i e)) || in_set needed x))
-
--- ---- the loop
-
--- what is marked, with what the tokens that are left read, is what the expression reads
-pub record Marking (e : List ℕ) (needed₀ needed : List ℕ) (i : ℕ) : Type 0 where
+-- of the tokens `all`, `left` are left
+pub record Marking (needed₀ : List ℕ) (all : List Token) (needed : List ℕ) (left : List Token) : Type 0 where
   pub long : length needed ≡ length needed₀
-  pub rest : Rest Trace (room_in needed₀) e i
-  pub same : (x : ℕ) → (reads x (tokens rest) || in_set needed x)
-      ≡ (reads x (tokens_of (parse Trace (below (room_in needed₀)) e)) || in_set needed₀ x)
+  pub may : Known (below (room_in needed₀)) left
+  pub same : (x : ℕ) → (reads x left || in_set needed x) ≡ (reads x all || in_set needed₀ x)
 
-pub marking_start : (e : List ℕ) (needed : List ℕ) → is_whole (parse Trace (below (room_in needed)) e) ≡ true → Marking e needed needed 0
-marking_start e needed h = record { long = refl; rest = rest-start Trace (room_in needed) e h; same = λ x. refl }
+pub marking_start : (e needed : List ℕ) (left : List Token) → is_whole (parse Trace (below (room_in needed)) e) ≡ true
+    → left ≡ tokens_of (parse Trace (below (room_in needed)) e)
+    → Marking needed (tokens_of (parse Trace (below (room_in needed)) e)) needed left
+marking_start e needed left h q =
+    subst (Marking needed (tokens_of (parse Trace (below (room_in needed)) e)) needed) (sym q)
+    (record { long = refl; may = tokens-known Trace (below (room_in needed)) e h; same = λ x. refl })
 
 or_moved : (a b c : Bool) → (b || (a || c)) ≡ ((a || b) || c)
 or_moved true true c = refl
 or_moved true false c = refl
 or_moved false b c = refl
 
-module _ {e : List ℕ} {needed₀ needed : List ℕ} {i : ℕ} (v : Marking e needed₀ needed i) where
-  pub record MarkOn (needed' : List ℕ) (m : ℕ) : Type 0 where
-    pub some_byte : 1 ≤ m
-    pub then : Marking e needed₀ needed' (i + m)
+module _ {needed₀ : List ℕ} {all : List Token} {needed : List ℕ} {left : List Token} (v : Marking needed₀ all needed left) where
+  module _ {t : Token} {rest : List Token} (q : left ≡ t ∷ rest) where
+    pub marking_known : reads_only (below (room_in needed)) t ≡ true
+    marking_known =
+        ap (λ n. reads_only (below n) t) (same-room _ _ v.long) ∙ (subst (Known (below (room_in needed₀))) q v.may).0
 
-  pub mark_on : i < length e → {needed' : List ℕ} {m : ℕ} → length needed' ≡ length needed → Marks e i m needed needed'
-      → MarkOn needed' m
-  mark_on h {needed'} {m} l (q, r) =
-      let t = turn v.rest h m q in
-      let left : ℕ → Bool = λ x. reads x (tokens t.then) in
-      record {
-        some_byte = t.some_byte;
-        then = record {
-          long = l ∙ v.long;
-          rest = t.then;
-          same = λ x.
-              ap (λ b. left x || b) (r x ∙ ap (λ o. reads_read x o || in_set needed x) t.is_read)
-              ∙ or_moved (reads_token x t.token) (left x) (in_set needed x)
-              ∙ ap (λ ts. reads x ts || in_set needed x) (sym t.split)
-              ∙ v.same x;
-        };
-      }
+    pub mark_on : {needed' : List ℕ} → length needed' ≡ length needed
+        → ((x : ℕ) → in_set needed' x ≡ (reads_token x t || in_set needed x)) → Marking needed₀ all needed' rest
+    mark_on l r = record {
+      long = l ∙ v.long;
+      may = (subst (Known (below (room_in needed₀))) q v.may).1;
+      same = λ x.
+          ap (λ b. reads x rest || b) (r x)
+          ∙ or_moved (reads_token x t) (reads x rest) (in_set needed x)
+          ∙ ap (λ ts. reads x ts || in_set needed x) (sym q)
+          ∙ v.same x;
+    }
 
-  pub all-marked : length e ≤ i → (x : ℕ) → in_set needed x
-      ≡ (reads x (tokens_of (parse Trace (below (room_in needed₀)) e)) || in_set needed₀ x)
-  all-marked h x = sym (ap (λ ts. reads x ts || in_set needed x) (rest_end v.rest h)) ∙ v.same x
+  pub all-marked : left ≡ [] → (x : ℕ) → in_set needed x ≡ (reads x all || in_set needed₀ x)
+  all-marked q x = sym (ap (λ ts. reads x ts || in_set needed x) q) ∙ v.same x

@@ -1,9 +1,7 @@
 -- What the code's values mean: its answers as functions of the definitions.
 use Rattle.std.specs.Prelude.{ℕ, ◌+◌, ◌*◌, ◌/◌, ◌%◌, ◌≡◌, Bool, true, false, cond, ◌||◌, List, [], ◌∷◌, length, get_or, set, eqb}
-use Rattle.std.proofs.Math.Option.{Option, none, some}
 use Rattle.expr.specs.Word.{bit}
-use Rattle.expr.specs.declared.token.Token.{Token}
-use Rattle.expr.specs.Eval.{reads_token, reads}
+use Rattle.expr.specs.Eval.{reads}
 use Rattle.file.specs.File.{Body, Good, Bad, record_bytes, records_bytes}
 use Rattle.trace.specs.Trace.{Stmt, Assign, Test, reads_trace, stmt_bytes}
 use Rattle.trace.specs.Shown.{expr_of}
@@ -20,10 +18,6 @@ in_set set x = eqb (bit (x % 64) (get_or set (x / 64) 0)) 1
 -- for how many symbols it has room
 unfoldable pub room_in : (set : List ℕ) → ℕ
 room_in set = 64 * length set
-
-abbrev pub reads_read : (x : ℕ) → Option Token → Bool
-reads_read x none = false
-reads_read x (some t) = reads_token x t
 
 -- ---- a statement that a record holds
 

@@ -1,33 +1,22 @@
 // The symbols that an expression reads.
-ghost use Rattle.std.specs.Prelude.{◌≡◌, true, ◌||◌, ℕ, ◌+◌, ◌<◌, length, drop};
+ghost use Rattle.std.specs.Prelude.{◌≡◌, true, ◌||◌, ℕ};
 ghost use Rattle.expr.specs.declared.File.TheVariants.{Trace};
-ghost use Rattle.expr.specs.Token.{read_token};
-ghost use Rattle.expr.specs.Expr.{below, parse};
-ghost use Rattle.expr.specs.Eval.{reads};
-ghost use Rattle.expr.specs.Shown.{is_whole, tokens_of, size_of, Stands};
-ghost use Rattle.slice.specs.Shown.{in_set, room_in, reads_read};
+ghost use Rattle.expr.specs.Expr.{below, reads_only, parse};
+ghost use Rattle.expr.specs.Eval.{reads_token, reads};
+ghost use Rattle.expr.specs.Shown.{is_whole, tokens_of};
+ghost use Rattle.slice.specs.Shown.{in_set, room_in};
 
 use super::sets;
-use expr::token::Read;
-use expr::{File, token};
+use expr::File;
+use expr::token::{Token, Tokens};
 
-// The symbol of the token at a place, if it is one, becomes needed; the token's bytes.
-fn mark_token(e: &[u8], i: usize, needed: &mut [u64]) -> usize
-    requires { (i < length e.now) × Stands Trace (room_in needed.old) e.now i }
-    ensures { (result ≡ size_of Trace (read_token Trace (drop i e.now)))
-        × ((x : ℕ) → in_set needed.new x ≡ (reads_read x (read_token Trace (drop i e.now)) || in_set needed.old
-        x)) }
+// The symbol of a token, if it is one, becomes needed.
+fn mark_token(t: Token, needed: &mut [u64])
+    requires { reads_only (below (room_in needed.old)) t ≡ true }
+    ensures { (x : ℕ) → in_set needed.new x ≡ (reads_token x t || in_set needed.old x) }
 {
-    let t = token::token_here(e, i, File::Trace);
-    let size = token::size_of(t, File::Trace);
-    match t {
-        Read::Symbol(s) => {
-            sets::mark(s, needed);
-            size
-        }
-        Read::Constant(_) => size,
-        Read::Operator(_) => size,
-        Read::Nothing => size,
+    if let Token::Symbol(s) = t {
+        sets::mark(s, needed);
     }
 }
 
@@ -37,9 +26,7 @@ pub fn mark_reads(e: &[u8], needed: &mut [u64])
     ensures { (x : ℕ) → in_set needed.new x
         ≡ (reads x (tokens_of (parse Trace (below (room_in needed.old)) e.now)) || in_set needed.old x) }
 {
-    let mut i: usize = 0;
-    while i < e.len() {
-        let size = mark_token(e, i, &mut *needed);
-        i += size;
+    for t in Tokens::new(e, File::Trace) {
+        mark_token(t, &mut *needed);
     }
 }

@@ -1,11 +1,11 @@
--- Each turn leaves fewer bytes; what is marked and what is left make the whole (`Marking`).
-use Prim.Native.Nat.{◌-◌}
-use lib.ListN.{length}
+-- What is marked and what is left make the whole (`Marking`).
+use Rattle.expr.specs.declared.File.TheVariants.{Trace}
+use Rattle.expr.specs.Expr.{below, parse}
+use Rattle.expr.specs.Shown.{tokens_left, tokens_of}
+use Rattle.slice.specs.Shown.{room_in}
 use Rattle.slice.proofs.Reading.{Marking}
 use Rattle.slice.proofs.reads.mark_reads.Given as goal
 
-abbrev pub invariant-loop-i : goal.invariant-loop-i
-invariant-loop-i l = Marking l.e l.initial.needed l.needed l.i
-
-abbrev pub decreases-loop-i : goal.decreases-loop-i
-decreases-loop-i l = length l.e - l.i
+abbrev pub invariant-loop-t : goal.invariant-loop-t
+invariant-loop-t l =
+    Marking l.initial.needed (tokens_of (parse Trace (below (room_in l.initial.needed)) l.fn.e)) l.needed (tokens_left l.t-iterator)
