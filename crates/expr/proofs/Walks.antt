@@ -1,14 +1,16 @@
 -- An expression's tokens, one after the other: those that an accepted expression has, each of which may stand where it stands.
 use Rattle.std.proofs.Common.{◌≡◌, ℕ, zero, suc, Bool, true, false, cond, List, [], ◌∷◌, eqb, eqb-true, refl, sym, ap, ap₂, ◌∙◌}
-use Rattle.std.proofs.Common.{subst, arith, Bor}
+use Rattle.std.proofs.Common.{◌+◌, ◌<◌, length, length-append, get_or, subst, arith, Bor}
 use Rattle.expr.specs.declared.File.{File}
 use Rattle.expr.specs.declared.token.Tokens.{Tokens}
 use Rattle.expr.specs.declared.token.Token.{Token}
-use Rattle.expr.specs.Token.{operand_count, read_token}
+use Rattle.expr.specs.Token.{operand_count, token_bytes, expr_bytes, read_token}
+use Rattle.expr.specs.Number.{Byte}
+use Rattle.expr.specs.TokenLaws.{operands-length}
 use Rattle.expr.specs.Expr.{depth_limit, reads_only, after, Parsed, Whole, Breaks, parse_from, parse, Ok}
 use Rattle.expr.specs.Shown.{token_then, tokens_from, tokens_left, is_whole, tokens_of}
-use Rattle.expr.specs.Lists.{All}
-use Rattle.expr.proofs.ExprLaws.{fits-is, took}
+use Rattle.expr.specs.Lists.{All, all-at}
+use Rattle.expr.proofs.ExprLaws.{fits-is, took, parse-accepted}
 
 -- each token reads only what may be read
 abbrev pub Known : (may : ℕ → Bool) → List Token → Type 0
@@ -43,7 +45,7 @@ module _ (F : File) (may : ℕ → Bool) where
         ok = subst (Ok may (depth_limit F) d 1) (sym k.is) (k.fit, w.ok);
       }
 
-  pub whole : (p : Parsed) → is_whole p ≡ true → p ≡ Whole (tokens_of p)
+  whole : (p : Parsed) → is_whole p ≡ true → p ≡ Whole (tokens_of p)
   whole (Whole e) h = refl
   whole (Breaks bs) h = absurd (let z : ◌≡◌ {A = ℕ} 0 1 = cc in omega arith)
 
@@ -60,3 +62,15 @@ module _ (F : File) (may : ℕ → Bool) where
 
     pub tokens-known : Known may (tokens_of (parse F may bs))
     tokens-known = ok-known may (depth_limit F) 0 1 (tokens_of (parse F may bs)) tokens-ok
+
+    -- they have all bytes
+    pub tokens-length : ((i : ℕ) → i < length bs → get_or bs i 0 < 256) → length (expr_bytes F (tokens_of (parse F may bs))) ≡ length bs
+    tokens-length o = ap length (parse-accepted F may bs (tokens_of (parse F may bs)) (all-at Byte bs o) (whole (parse F may bs) h)).bytes
+
+-- the bytes of the tokens that are left, with the first of them and without
+pub left-length : (F : File) {left rest : List Token} {t : Token} → left ≡ t ∷ rest
+    → length (expr_bytes F left) ≡ 1 + operand_count F t + length (expr_bytes F rest)
+left-length F {left} {rest} {t} q =
+    ap (λ ts. length (expr_bytes F ts)) q
+    ∙ (let k : length (expr_bytes F (t ∷ rest)) ≡ 1 + operand_count F t + length (expr_bytes F rest) =
+    omega (arith, length-append (token_bytes F t) (expr_bytes F rest), operands-length F t) in k)

@@ -1,4 +1,3 @@
-pub mod Names
 pub mod Exprs
 pub mod Lines
 pub mod Whole

@@ -1,28 +1,11 @@
 -- What the code's values mean: its answers as functions of the definitions.
-use Rattle.std.specs.Prelude.{ℕ, ◌≡◌, List, [], ◌++◌, length}
-use Rattle.std.proofs.Math.Option.{Option, none, some}
-use Rattle.expr.specs.declared.token.Token.{Token}
-use Rattle.expr.specs.Token.{operator}
+use Rattle.std.specs.Prelude.{ℕ, ◌≡◌, List, [], length}
 use Rattle.file.specs.File.{Body, Good, Bad}
 use Rattle.trace.specs.Trace.{Stmt}
 use Rattle.write.specs.Splice.{over}
 use Rattle.show.specs.declared.Answer.{Answer}
-use Rattle.write.specs.Ascii.{ascii}
-use Rattle.show.specs.Text.{token_text, stmt_line}
+use Rattle.show.specs.Text.{stmt_line}
 use Rattle.show.specs.Answer.{fitting, numbers}
-
--- the text of a token that is read, after a space
-abbrev pub read_text : Option Token → List ℕ
-read_text none = []
-read_text (some t) = ascii " " ++ token_text t
-
-abbrev pub text_of : Option Token → List ℕ
-text_of none = []
-text_of (some t) = token_text t
-
--- an operator's name by its code
-unfoldable pub name_of : (code : ℕ) → List ℕ
-name_of b = text_of (operator b)
 
 -- the line of a statement that a record holds
 abbrev pub line_in : Body Stmt → List ℕ

@@ -1,17 +1,17 @@
 // Tokens by name. Every writer counts its letters and stores those that fit.
-ghost use Rattle.std.specs.Prelude.{◌≡◌, true, ◌+◌, ◌*◌, ◌^◌, ◌≤◌, ◌<◌, ◌++◌, length, drop};
+ghost use Rattle.std.specs.Prelude.{◌≡◌, true, ◌+◌, ◌*◌, ◌^◌, ◌≤◌, ◌<◌, ◌++◌, length};
 ghost use Rattle.expr.specs.declared.File.TheVariants.{Trace};
-ghost use Rattle.expr.specs.Token.{read_token};
-ghost use Rattle.expr.specs.Expr.{below, parse};
-ghost use Rattle.expr.specs.Shown.{pops_of, is_whole, tokens_of, size_of, Stands};
+ghost use Rattle.expr.specs.Token.{operand_count};
+ghost use Rattle.expr.specs.Expr.{below, reads_only, parse};
+ghost use Rattle.expr.specs.Shown.{is_whole, tokens_of};
 ghost use Rattle.trace.specs.Shown.{test_kind, symbol_room};
 ghost use Rattle.write.specs.Splice.{Wrote};
 ghost use Rattle.write.specs.Ascii.{ascii};
-ghost use Rattle.show.specs.Text.{kind_name, expr_text, refusal_text};
-ghost use Rattle.show.specs.Shown.{name_of, read_text};
+ghost use Rattle.show.specs.Text.{unary_name, binary_name, token_text, kind_name, expr_text, refusal_text};
 
-use expr::token::Read;
-use expr::{File, token};
+use expr::File;
+use expr::token::{Token, Tokens};
+use expr::word::{Binary, Unary};
 
 // The refusal's line, from the buffer's first byte.
 pub fn put_refusal(reply: u32, offset: u32, out: &mut [u8]) -> usize
@@ -38,67 +38,53 @@ pub fn put_kind(kind: u8, out: &mut [u8], at: usize) -> usize
     write::fit_part(b" assume", out, at)
 }
 
-// An operator by its code.
-fn put_name(code: u8, out: &mut [u8], at: usize) -> usize
-    requires { (0 < pops_of code) × (at + 5 < 2 ^ 64) }
-    ensures { Wrote out.old at (name_of code) out.new result × (result ≤ at + 5) }
+// An operator's name.
+fn unary_name(o: Unary) -> &'static [u8]
+    ensures { result.now ≡ ascii (unary_name o) }
 {
-    match code {
-        0x10 => write::fit_part(b"not", out, at),
-        0x11 => write::fit_part(b"neg", out, at),
-        0x12 => write::fit_part(b"zero", out, at),
-        0x20 => write::fit_part(b"add", out, at),
-        0x21 => write::fit_part(b"sub", out, at),
-        0x22 => write::fit_part(b"mul", out, at),
-        0x23 => write::fit_part(b"udiv", out, at),
-        0x24 => write::fit_part(b"urem", out, at),
-        0x25 => write::fit_part(b"and", out, at),
-        0x26 => write::fit_part(b"or", out, at),
-        0x27 => write::fit_part(b"xor", out, at),
-        0x28 => write::fit_part(b"shl", out, at),
-        0x29 => write::fit_part(b"lshr", out, at),
-        0x2A => write::fit_part(b"equal", out, at),
-        0x2B => write::fit_part(b"ult", out, at),
-        0x2C => write::fit_part(b"slt", out, at),
-        0x2D => write::fit_part(b"ule", out, at),
-        _ => write::fit_part(b"ite", out, at),
+    match o {
+        Unary::Not => b"not",
+        Unary::Neg => b"neg",
+        Unary::Zero => b"zero",
     }
 }
 
-// After a token: its bytes in the trace, and the next place of the buffer.
-#[derive(Clone, Copy)]
-struct Put {
-    pub size: usize,
-    pub to: usize,
+fn binary_name(o: Binary) -> &'static [u8]
+    ensures { result.now ≡ ascii (binary_name o) }
+{
+    match o {
+        Binary::Add => b"add",
+        Binary::Sub => b"sub",
+        Binary::Mul => b"mul",
+        Binary::Udiv => b"udiv",
+        Binary::Urem => b"urem",
+        Binary::And => b"and",
+        Binary::Or => b"or",
+        Binary::Xor => b"xor",
+        Binary::Shl => b"shl",
+        Binary::Lshr => b"lshr",
+        Binary::Equal => b"equal",
+        Binary::Ult => b"ult",
+        Binary::Slt => b"slt",
+        Binary::Ule => b"ule",
+    }
 }
 
-// The token at a place of an expression, after a space. No token has more letters than six for each of its bytes.
-fn put_token(e: &[u8], i: usize, out: &mut [u8], at: usize) -> Put
-    requires { (i < length e.now) × Stands Trace symbol_room e.now i
-        × (at + 6 * size_of Trace (read_token Trace (drop i e.now)) < 2 ^ 64) }
-    ensures { (result.size ≡ size_of Trace (read_token Trace (drop i e.now))) × Wrote out.old at
-        (read_text (read_token Trace (drop i e.now))) out.new result.to × (result.to ≤ at + 6 * result.size) }
+// A token, after a space. None has more letters than six for each of its bytes.
+fn put_token(t: Token, out: &mut [u8], at: usize) -> usize
+    requires { (reads_only (below symbol_room) t ≡ true) × (at + 6 * (1 + operand_count Trace t) < 2 ^ 64) }
+    ensures { Wrote out.old at (ascii " " ++ token_text t) out.new result × (result ≤ at + 6 * (1 + operand_count Trace t)) }
 {
-    let a = write::fit_byte(0x20, out, at);
-    let t = token::token_here(e, i, File::Trace);
-    let size = token::size_of(t, File::Trace);
+    let a = write::fit_byte(b' ', out, at);
     match t {
-        Read::Constant(w) => Put {
-            size: size,
-            to: write::fit_decimal(w, out, a),
-        },
-        Read::Symbol(s) => {
-            let b = write::fit_byte(0x73, out, a);
-            Put {
-                size: size,
-                to: write::fit_decimal(s as u32, out, b),
-            }
+        Token::Const(w) => write::fit_decimal(w, out, a),
+        Token::Symbol(s) => {
+            let b = write::fit_byte(b's', out, a);
+            write::fit_decimal(s as u32, out, b)
         }
-        Read::Operator(code) => Put {
-            size: size,
-            to: put_name(code, out, a),
-        },
-        Read::Nothing => Put { size: size, to: a },
+        Token::Un(o) => write::fit_part(unary_name(o), out, a),
+        Token::Bin(o) => write::fit_part(binary_name(o), out, a),
+        Token::Ite => write::fit_part(b"ite", out, a),
     }
 }
 
@@ -108,12 +94,9 @@ pub fn put_tokens(e: &[u8], out: &mut [u8], at: usize) -> usize
     ensures { Wrote out.old at (expr_text (tokens_of (parse Trace (below symbol_room) e.now))) out.new result
         × (result ≤ at + 6 * length e.now) }
 {
-    let mut i: usize = 0;
     let mut to = at;
-    while i < e.len() {
-        let p = put_token(e, i, &mut *out, to);
-        to = p.to;
-        i += p.size;
+    for t in Tokens::new(e, File::Trace) {
+        to = put_token(t, &mut *out, to);
     }
     to
 }

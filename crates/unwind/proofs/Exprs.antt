@@ -69,14 +69,7 @@ module _ (names : List ℕ) where
 
 -- ---- the loop that measures
 
--- the bytes of a token in a trace, and at most twice as many as in the table
-pub token_size : (t : Token) → length (token_bytes Trace t) ≡ 1 + operand_count Trace t
-token_size (Const n) = refl
-token_size (Symbol s) = refl
-token_size (Un u) = refl
-token_size (Bin u) = refl
-token_size Ite = refl
-
+-- in a trace, at most twice as many bytes as in the table
 little_token : (t : Token) → length (token_bytes Trace t) ≤ 2 * length (token_bytes Table t)
 little_token (Const n) = omega arith
 little_token (Symbol s) = omega arith
@@ -89,9 +82,3 @@ little [] = omega arith
 little (t ∷ e) =
     omega (arith, little_token t, little e, length-append (token_bytes Trace t) (expr_bytes Trace e),
     length-append (token_bytes Table t) (expr_bytes Table e))
-
-pub size_on : (t : Token) (left rest : List Token) → left ≡ t ∷ rest → expr_size left ≡ 1 + operand_count Trace t + expr_size rest
-size_on t left rest q =
-    ap expr_size q
-    ∙ (let k : expr_size (t ∷ rest) ≡ 1 + operand_count Trace t + expr_size rest =
-    omega (arith, token_size t, length-append (token_bytes Trace t) (expr_bytes Trace rest)) in k)

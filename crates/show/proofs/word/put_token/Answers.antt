@@ -1,90 +1,91 @@
--- A space, and then the text that what is read of the token says.
-use Prim.Native.Nat.{ℕ, ◌<◌}
-use borrow.Author.Rules.{rules}
-use native.Mathlib.Omega.{arith}
-use mathlib.Core.Path.{◌≡◌, sym, ap, ◌∙◌}
-use mathlib.Core.Option.{Option}
-use lib.ListN.{drop}
+-- A space, and then the token's text.
+use Rattle.std.proofs.Common.{◌≡◌, ◌+◌, ◌*◌, ◌≤◌, ◌++◌, List, ℕ, length, sym, ap, ◌∙◌, subst, arith, ltb-true, true}
 use Rattle.expr.specs.declared.File.TheVariants.{Trace}
-use Rattle.expr.specs.declared.token.Read.{Read}
-use Rattle.expr.specs.declared.token.Read.TheVariants as R
-use Rattle.expr.specs.declared.token.Token.{Token}
-use Rattle.expr.specs.Token.{read_token}
-use Rattle.expr.specs.Shown.{shown_token, read_size, size_of}
-use Rattle.expr.proofs.Reading.{read-size, shown-operator}
-use Rattle.expr.proofs.Steps.{symbol-below}
+use Rattle.expr.specs.declared.word.Unary.{Unary}
+use Rattle.expr.specs.declared.word.Unary.TheVariants.{Not, Neg, Zero}
+use Rattle.expr.specs.declared.word.Binary.{Binary}
+use Rattle.expr.specs.declared.word.Binary.TheVariants.{Add, Sub, Mul, Udiv, Urem, And, Or, Xor, Shl, Lshr, Equal, Ult, Ule, Slt}
+use Rattle.expr.specs.Token.{operand_count}
+use Rattle.expr.specs.Expr.{below, reads_only}
 use Rattle.trace.specs.Shown.{symbol_room}
 use Rattle.trace.specs.TraceLaws.{symbols-few}
+use Rattle.write.specs.Splice.{Wrote}
 use Rattle.write.specs.SpliceLaws.{◌then◌, wrote_as}
-use Rattle.show.proofs.Exprs.{constant-text, symbol-text, operator-text}
+use Rattle.write.specs.Ascii.{ascii}
+use Rattle.show.specs.Text.{unary_name, binary_name, token_text}
 use Rattle.show.proofs.word.put_token.Goals as goal
-use Rattle.show.proofs.word.put_token.Goals.{After-size_of-size, Start}
 
--- the token, and its bytes
-module _ (c : After-size_of-size) where
-  abbrev start : Start
-  start = (goal.at.After-size_of-size c).Start
+-- an operator's name has at most five letters
+unary_few : (o : Unary) → length (ascii (unary_name o)) ≤ 5
+unary_few Not = omega arith
+unary_few Neg = omega arith
+unary_few Zero = omega arith
 
-  abbrev here : Option Token
-  here = read_token Trace (drop start.args.i start.args.e.now)
-
-  abbrev read : Read
-  read = c.token_here-t.result
-
-  is_read : read ≡ shown_token here
-  is_read = c.token_here-t.ensures
-
-  size_is : c.size_of-size.result ≡ size_of Trace here
-  size_is = c.size_of-size.ensures ∙ read-size Trace here is_read
-
-  size-by : {t : Read} → read ≡ t → size_of Trace here ≡ read_size Trace t
-  size-by p = sym (size_is) ∙ c.size_of-size.ensures ∙ ap (read_size Trace) p
-
-  symbol-small : {s : ℕ} → read ≡ R.Symbol s → s < symbol_room
-  symbol-small p = symbol-below Trace symbol_room start.args.e.now start.args.i start.requires.1 is_read p
+binary_few : (o : Binary) → length (ascii (binary_name o)) ≤ 5
+binary_few Add = omega arith
+binary_few Sub = omega arith
+binary_few Mul = omega arith
+binary_few Udiv = omega arith
+binary_few Urem = omega arith
+binary_few And = omega arith
+binary_few Or = omega arith
+binary_few Xor = omega arith
+binary_few Shl = omega arith
+binary_few Lshr = omega arith
+binary_few Equal = omega arith
+binary_few Ult = omega arith
+binary_few Ule = omega arith
+binary_few Slt = omega arith
 
 pub overflow_cast-s : goal.overflow_cast-s
-overflow_cast-s c =
-    let told = c.in-Symbol.is in
-    omega (arith, symbol-small (goal.at.overflow_cast-s c).After-size_of-size told, symbols-few)
+overflow_cast-s c = record {
+  fits =
+      let known = subst (λ t. reads_only (below symbol_room) t ≡ true) c.in-Symbol.is c.requires.0 in
+      omega (arith, ltb-true c.in-Symbol.s symbol_room known, symbols-few);
+}
 
-pub put_name-requires : goal.put_name-requires
-put_name-requires c =
-    let place = (goal.at.put_name-requires c).After-size_of-size in
-    let told = c.in-Operator.is in
-    ((shown-operator (here place) _ (sym (is_read place) ∙ told)).pops_some, search (rules, size-by place told))
+pub fit_part-requires : goal.fit_part-requires
+fit_part-requires c =
+    omega (arith, c.requires.1, c.fit_byte-a.ensures.next, ap length c.unary_name.ensures, unary_few c.in-Un.o)
 
-pub returns-in-Constant : goal.returns-in-Constant
-returns-in-Constant c =
-    let place = (goal.at.returns-in-Constant c).After-size_of-size in
-    let told = c.in-Constant.is in (
-      size_is place,
-      wrote_as (constant-text (here place) (is_read place) told) (c.fit_byte-a.ensures then c.fit_decimal.ensures.0),
-      omega (arith, size_is place, size-by place told, c.fit_byte-a.ensures.next, c.fit_decimal.ensures.1),
+pub fit_part-requires-in-Bin : goal.fit_part-requires-in-Bin
+fit_part-requires-in-Bin c =
+    omega (arith, c.requires.1, c.fit_byte-a.ensures.next, ap length c.binary_name.ensures, binary_few c.in-Bin.o)
+
+pub returns-in-Const : goal.returns-in-Const
+returns-in-Const c =
+    let k = ap (operand_count Trace) c.in-Const.is in (
+      wrote_as (sym (ap (λ t. ascii " " ++ token_text t) c.in-Const.is)) (c.fit_byte-a.ensures then c.fit_decimal.ensures.0),
+      omega (arith, k, c.fit_byte-a.ensures.next, c.fit_decimal.ensures.1),
     )
 
 pub returns-in-Symbol : goal.returns-in-Symbol
 returns-in-Symbol c =
-    let place = (goal.at.returns-in-Symbol c).After-size_of-size in
-    let told = c.in-Symbol.is in (
-      size_is place,
-      wrote_as (symbol-text (here place) (is_read place) told)
+    let k = ap (operand_count Trace) c.in-Symbol.is in (
+      wrote_as (sym (ap (λ t. ascii " " ++ token_text t) c.in-Symbol.is))
           (c.fit_byte-a.ensures then c.fit_byte-b.ensures then c.fit_decimal-in-Symbol.ensures.0),
-      omega (
-        arith,
-        size_is place,
-        size-by place told,
-        c.fit_byte-a.ensures.next,
-        c.fit_byte-b.ensures.next,
-        c.fit_decimal-in-Symbol.ensures.1,
-      ),
+      omega (arith, k, c.fit_byte-a.ensures.next, c.fit_byte-b.ensures.next, c.fit_decimal-in-Symbol.ensures.1),
     )
 
-pub returns-in-Operator : goal.returns-in-Operator
-returns-in-Operator c =
-    let place = (goal.at.returns-in-Operator c).After-size_of-size in
-    let told = c.in-Operator.is in (
-      size_is place,
-      wrote_as (operator-text (here place) (is_read place) told) (c.fit_byte-a.ensures then c.put_name.ensures.0),
-      omega (arith, size_is place, size-by place told, c.fit_byte-a.ensures.next, c.put_name.ensures.1),
+pub returns-in-Un : goal.returns-in-Un
+returns-in-Un c =
+    let k = ap (operand_count Trace) c.in-Un.is in (
+      wrote_as (ap (λ bs. ascii " " ++ bs) c.unary_name.ensures ∙ sym (ap (λ t. ascii " " ++ token_text t) c.in-Un.is))
+          (c.fit_byte-a.ensures then c.fit_part.ensures),
+      omega (arith, k, c.fit_byte-a.ensures.next, c.fit_part.ensures.next, ap length c.unary_name.ensures, unary_few c.in-Un.o),
+    )
+
+pub returns-in-Bin : goal.returns-in-Bin
+returns-in-Bin c =
+    let k = ap (operand_count Trace) c.in-Bin.is in (
+      wrote_as (ap (λ bs. ascii " " ++ bs) c.binary_name.ensures ∙ sym (ap (λ t. ascii " " ++ token_text t) c.in-Bin.is))
+          (c.fit_byte-a.ensures then c.fit_part-in-Bin.ensures),
+      omega (arith, k, c.fit_byte-a.ensures.next, c.fit_part-in-Bin.ensures.next, ap length c.binary_name.ensures, binary_few c.in-Bin.o),
+    )
+
+pub returns-in-Ite : goal.returns-in-Ite
+returns-in-Ite c =
+    let k = ap (operand_count Trace) c.in-Ite.is in (
+      wrote_as (sym (ap (λ t. ascii " " ++ token_text t) c.in-Ite.is)) (c.fit_byte-a.ensures then c.fit_part-in-Ite.ensures),
+      omega (arith, k, c.fit_byte-a.ensures.next, c.fit_part-in-Ite.ensures.next),
     )

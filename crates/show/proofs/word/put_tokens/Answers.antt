@@ -1,30 +1,37 @@
-use native.Mathlib.Omega.{arith}
-use Rattle.expr.proofs.Rests.{stands}
-use Rattle.show.proofs.Exprs.{PutOn, putting_start, putting_room, put_on, put_all}
+-- Each token is written where the one before it ends.
+use Rattle.std.proofs.Common.{◌≡◌, length, refl, ap, ◌∙◌, arith}
+use Rattle.expr.specs.declared.File.TheVariants.{Trace}
+use Rattle.expr.specs.declared.token.Tokens.{Tokens}
+use Rattle.expr.specs.Token.{expr_bytes}
+use Rattle.expr.specs.Expr.{below, parse}
+use Rattle.expr.specs.Shown.{tokens_left, tokens_of}
+use Rattle.expr.proofs.Walks.{tokens-given, tokens-length}
+use Rattle.trace.specs.Shown.{symbol_room}
+use Rattle.show.proofs.Exprs.{putting_start, putting_room, putting_known, put_on, put_all}
+use Rattle.show.proofs.word.put_tokens.Goals.{After-into_iter-t-iterator}
 use Rattle.show.proofs.word.put_tokens.Goals as goal
-use Rattle.show.proofs.word.put_tokens.Goals.{After-struct_known-1}
 
-pub loop-i-init : goal.loop-i-init
-loop-i-init c = putting_start _ _ _ c.requires.0
+bytes : (c : After-into_iter-t-iterator)
+    → length (expr_bytes Trace (tokens_of (parse Trace (below symbol_room) c.args.e.now))) ≡ length c.args.e.now
+bytes c = tokens-length Trace (below symbol_room) c.args.e.now c.requires.0 (λ i h. (c.type_inv.e i).fits)
 
-on : (c : After-struct_known-1) → PutOn c.loop-i.invariant
-    c.loop-i-test.true c.put_token-p.new.out
-    c.put_token-p.result.size c.put_token-p.result.to
-on c =
-    put_on c.loop-i.invariant c.loop-i-test.true
-    c.put_token-p.ensures
+pub loop-t-init : goal.loop-t-init
+loop-t-init c =
+    putting_start c.args.e.now c.args.out.now c.args.at _ c.requires.0
+    (ap (λ (r : Tokens). tokens_left r) c.into_iter-t-iterator.ensures.into_iter_gives
+    ∙ tokens-given Trace _ _ c.requires.0 _ _ c.new-t-items.ensures.rest c.new-t-items.ensures.file refl)
 
-pub put_token-p-requires : goal.put_token-p-requires
-put_token-p-requires c = let v = c.loop-i.invariant in let h = c.loop-i-test.true in
-    (h, stands v.rest h, putting_room v h c.requires.1)
+pub put_token-to-requires : goal.put_token-to-requires
+put_token-to-requires c = (
+  putting_known c.loop-t.invariant c.in-Some.ensures.steps,
+  putting_room c.loop-t.invariant c.in-Some.ensures.steps
+      (omega (arith, c.requires.1, bytes (goal.at.put_token-to-requires c).After-into_iter-t-iterator)),
+)
 
-pub loop-i-smaller : goal.loop-i-smaller
-loop-i-smaller c =
-    let place = (goal.at.loop-i-smaller c).After-struct_known-1 in
-    omega (arith, (on place).then.rest.inside, (on place).some_byte)
-
-pub loop-i-preserved : goal.loop-i-preserved
-loop-i-preserved c = (on (goal.at.loop-i-preserved c).After-struct_known-1).then
+pub loop-t-preserved : goal.loop-t-preserved
+loop-t-preserved c = put_on c.loop-t.invariant c.in-Some.ensures.steps c.put_token-to.ensures.0 c.put_token-to.ensures.1
 
 pub returns : goal.returns
-returns c = put_all c.loop-i.invariant c.loop-i-test.false
+returns c =
+    let k = put_all c.loop-t.invariant c.in-None.ensures.steps.0 in
+    (k.0, omega (arith, k.1, bytes (goal.at.returns c).After-into_iter-t-iterator))

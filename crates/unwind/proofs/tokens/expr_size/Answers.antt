@@ -1,25 +1,20 @@
 -- Each token adds its bytes; all of them are at most twice as many as the table has.
 use Rattle.std.proofs.Common.{◌≡◌, ◌*◌, ◌≤◌, refl, sym, ap, ◌∙◌, length, arith}
-use Rattle.expr.specs.declared.File.TheVariants.{Table}
+use Rattle.expr.specs.declared.File.TheVariants.{Table, Trace}
 use Rattle.expr.specs.declared.token.Tokens.{Tokens}
-use Rattle.expr.specs.Lists.{All, all-at}
-use Rattle.expr.specs.Number.{Byte}
-use Rattle.expr.specs.Token.{expr_bytes}
 use Rattle.expr.specs.Expr.{parse}
 use Rattle.expr.specs.Shown.{tokens_left, tokens_of}
-use Rattle.expr.proofs.Walks.{tokens-given, whole}
-use Rattle.expr.proofs.ExprLaws.{parse-accepted}
+use Rattle.expr.proofs.Walks.{tokens-given, tokens-length, left-length}
 use Rattle.unwind.specs.Size.{expr_size}
 use Rattle.unwind.specs.Shown.{known}
-use Rattle.unwind.proofs.Exprs.{little, size_on}
+use Rattle.unwind.proofs.Exprs.{little}
 use Rattle.unwind.proofs.tokens.expr_size.Goals.{After-into_iter-t-iterator}
 use Rattle.unwind.proofs.tokens.expr_size.Goals as goal
 
 small : (c : After-into_iter-t-iterator) → expr_size (tokens_of (parse Table known c.args.e.now)) ≤ 2 * length c.args.e.now
 small c =
-    let bytes : All Byte c.args.e.now = all-at Byte c.args.e.now (λ i h. (c.type_inv.e i).fits) in
-    let a = parse-accepted Table known c.args.e.now _ bytes (whole Table known _ c.requires.0) in
-    omega (arith, little (tokens_of (parse Table known c.args.e.now)), ap length a.bytes)
+    omega (arith, little (tokens_of (parse Table known c.args.e.now)),
+    tokens-length Table known c.args.e.now c.requires.0 (λ i h. (c.type_inv.e i).fits))
 
 pub loop-t-init : goal.loop-t-init
 loop-t-init c =
@@ -30,12 +25,12 @@ loop-t-init c =
 pub overflow_add-size : goal.overflow_add-size
 overflow_add-size c = record {
   fits =
-      omega (arith, c.requires.1, c.loop-t.invariant, c.size-size.ensures, size_on _ _ _ c.in-Some.ensures.steps,
+      omega (arith, c.requires.1, c.loop-t.invariant, c.size-size.ensures, left-length Trace c.in-Some.ensures.steps,
       small (goal.at.overflow_add-size c).After-into_iter-t-iterator);
 }
 
 pub loop-t-preserved : goal.loop-t-preserved
-loop-t-preserved c = omega (arith, c.loop-t.invariant, c.size-size.ensures, size_on _ _ _ c.in-Some.ensures.steps)
+loop-t-preserved c = omega (arith, c.loop-t.invariant, c.size-size.ensures, left-length Trace c.in-Some.ensures.steps)
 
 pub returns : goal.returns
 returns c =
