@@ -1,6 +1,6 @@
 -- An expression's tokens, one after the other: those that an accepted expression has, each of which may stand where it stands.
 use Rattle.std.proofs.Common.{◌≡◌, ℕ, zero, suc, Bool, true, false, cond, List, [], ◌∷◌, eqb, eqb-true, refl, sym, ap, ap₂, ◌∙◌}
-use Rattle.std.proofs.Common.{◌+◌, ◌<◌, length, length-append, get_or, subst, arith, Bor}
+use Rattle.std.proofs.Common.{◌+◌, ◌<◌, ◌≤◌, length, length-append, get_or, subst, arith, Bor}
 use Rattle.expr.specs.declared.File.{File}
 use Rattle.expr.specs.declared.token.Tokens.{Tokens}
 use Rattle.expr.specs.declared.token.Token.{Token}
@@ -74,3 +74,8 @@ left-length F {left} {rest} {t} q =
     ap (λ ts. length (expr_bytes F ts)) q
     ∙ (let k : length (expr_bytes F (t ∷ rest)) ≡ 1 + operand_count F t + length (expr_bytes F rest) =
     omega (arith, length-append (token_bytes F t) (expr_bytes F rest), operands-length F t) in k)
+
+-- no token has no bytes
+pub tokens-few : (F : File) (e : List Token) → length e ≤ length (expr_bytes F e)
+tokens-few F [] = omega arith
+tokens-few F (t ∷ e) = omega (arith, tokens-few F e, left-length F {left = t ∷ e} refl)

@@ -1,18 +1,12 @@
--- What the code's values mean: the text of what is read of a token, what a statement adds to a part of the script, and the last Assert.
-use Rattle.std.specs.Prelude.{ℕ, suc, ◌+◌, ◌-◌, ◌<◌, cond, List, [], ◌∷◌, ◌++◌, replicate, eqb, leb}
+-- What the code's values mean: the text of a token, what a statement adds to a part of the script, and the last Assert.
+use Rattle.std.specs.Prelude.{ℕ, suc, ◌+◌, ◌-◌, cond, List, [], ◌∷◌, ◌++◌, replicate, eqb}
 use Prim.Native.String.{String}
-use Rattle.std.proofs.Math.Option.{Option, none, some}
-use Rattle.expr.specs.declared.token.Read.{Read}
-use Rattle.expr.specs.declared.token.Read.TheVariants as R
 use Rattle.expr.specs.declared.word.Unary.{Unary}
 use Rattle.expr.specs.declared.word.Unary.TheVariants.{Not, Neg, Zero}
 use Rattle.expr.specs.declared.word.Binary.{Binary}
 use Rattle.expr.specs.declared.word.Binary.TheVariants.{Add, Sub, Mul, Udiv, Urem, And, Or, Xor, Shl, Lshr, Equal, Ult, Ule, Slt}
 use Rattle.expr.specs.declared.token.Token.{Token}
-use Rattle.expr.specs.declared.token.Token.TheVariants.{Const, Symbol, Un, Bin, Ite}
-use Rattle.expr.specs.Token.{operator}
 use Rattle.expr.specs.Expr.{pops}
-use Rattle.expr.specs.Shown.{pops_of}
 use Rattle.file.specs.Outcome.{Kind, Assume, Assert, Bound}
 use Rattle.file.specs.File.{Body, Good, Bad, Input, Accepted, Refused}
 use Rattle.trace.specs.Trace.{Stmt, Assign, Test}
@@ -21,9 +15,9 @@ use Rattle.write.specs.Ascii.{ascii}
 use Rattle.script.specs.declared.line.Part.{Part}
 use Rattle.script.specs.declared.line.Part.TheVariants.{Declarations, Equations, Tests}
 use Rattle.script.specs.Script.{token_term, expr_term, numbers_from}
-use Rattle.script.specs.ScriptText.{constant, symbol_name, slot_name, term_text, declaration, declarations, equation_line, script_text}
+use Rattle.script.specs.ScriptText.{slot_name, term_text, declaration, declarations, equation_line, script_text}
 
--- ---- an operator by its code
+-- ---- an operator
 
 -- what stands in front of its first variable
 abbrev pub unary_front : Unary → String
@@ -47,62 +41,37 @@ binary_front Ult = "(ite (bvult "
 binary_front Ule = "(ite (bvule "
 binary_front Slt = "(ite (bvslt "
 
-abbrev pub front : Token → List ℕ
-front (Const n) = []
-front (Symbol s) = []
-front (Un o) = ascii (unary_front o)
-front (Bin o) = ascii (binary_front o)
-front Ite = ascii "(ite (distinct "
+-- and what stands behind the last one
+abbrev pub unary_back : Unary → String
+unary_back Not = ")"
+unary_back Neg = ")"
+unary_back Zero = " #x00000000) #x00000001 #x00000000)"
 
-abbrev pub front_in : Option Token → List ℕ
-front_in none = []
-front_in (some t) = front t
-
-unfoldable pub front_of : (code : ℕ) → List ℕ
-front_of b = front_in (operator b)
-
--- what stands behind a binary operator's variables: the codes from 0x2A on are tests
-abbrev pub back_of : (code : ℕ) → List ℕ
-back_of b = cond (leb 0x2A b) (ascii ") #x00000001 #x00000000)") (ascii ")")
-
--- the term of a binary operator
-unfoldable pub binary_text : (k code : ℕ) → List ℕ
-binary_text k b = front_of b ++ slot_name k ++ ascii " " ++ slot_name (k + 1) ++ back_of b
+abbrev pub binary_back : Binary → String
+binary_back Add = ")"
+binary_back Sub = ")"
+binary_back Mul = ")"
+binary_back Udiv = ")"
+binary_back Urem = ")"
+binary_back And = ")"
+binary_back Or = ")"
+binary_back Xor = ")"
+binary_back Shl = ")"
+binary_back Lshr = ")"
+binary_back Equal = ") #x00000001 #x00000000)"
+binary_back Ult = ") #x00000001 #x00000000)"
+binary_back Ule = ") #x00000001 #x00000000)"
+binary_back Slt = ") #x00000001 #x00000000)"
 
 -- ---- a token
-
--- the text of the word that it pushes onto k words
-abbrev pub word_text : (k : ℕ) → Option Token → List ℕ
-word_text k none = []
-word_text k (some t) = term_text (token_term k t)
 
 -- the binding of a word to its variable
 abbrev pub binding_of : (k : ℕ) (word : List ℕ) → List ℕ
 binding_of k word = ascii "(let ((" ++ slot_name k ++ ascii " " ++ word ++ ascii ")) "
 
 -- the binding of a token where d words are held
-abbrev pub binding : (d : ℕ) → Option Token → List ℕ
-binding d none = []
-binding d (some t) = binding_of (d - pops t) (term_text (token_term (d - pops t) t))
-
--- the same by what is read of it
-abbrev pub pops_read : Read → ℕ
-pops_read R.Nothing = 0
-pops_read (R.Constant w) = 0
-pops_read (R.Symbol s) = 0
-pops_read (R.Operator b) = pops_of b
-
-abbrev pub read_text : (k : ℕ) → Read → List ℕ
-read_text k R.Nothing = []
-read_text k (R.Constant w) = constant w
-read_text k (R.Symbol s) = symbol_name s
-read_text k (R.Operator b) = word_text k (operator b)
-
-abbrev pub Writable : Read → Type 0
-Writable R.Nothing = Unit {0}
-Writable (R.Constant w) = Unit {0}
-Writable (R.Symbol s) = s < 65536
-Writable (R.Operator b) = 0 < pops_of b
+abbrev pub binding : (d : ℕ) → Token → List ℕ
+binding d t = binding_of (d - pops t) (term_text (token_term (d - pops t) t))
 
 -- ---- what a statement adds to a part of the script
 

@@ -1,4 +1,4 @@
-use native.Mathlib.Omega.{arith}
+use Rattle.std.proofs.Common.{arith}
 use Rattle.write.specs.SpliceLaws.{◌then◌, wrote_as}
 use Rattle.script.proofs.Operators.{ite-text}
 use Rattle.script.proofs.operator.put_ite.Goals as goal

@@ -1,18 +1,44 @@
-use borrow.Author.Rules.{rules}
-use native.Mathlib.Omega.{arith}
+-- What stands in front, the variable, and what stands behind.
+use Rattle.std.proofs.Common.{◌++◌, length, sym, ap, ap₂, ◌∙◌, arith}
 use Rattle.write.specs.SpliceLaws.{◌then◌, wrote_as}
-use Rattle.script.proofs.Operators.{zero_text, unary-text}
+use Rattle.script.specs.ScriptText.{slot_name}
+use Rattle.script.proofs.Operators.{unary-few, unary-text}
 use Rattle.script.proofs.operator.put_unary.Goals as goal
 
-pub returns-then-code-eq18 : goal.returns-then-code-eq18
-returns-then-code-eq18 c = (
-  wrote_as (zero_text _ _ c.if-code-eq18.true) ((c.put_front-a.ensures.0 then c.put_name-b.ensures.0) then c.fit_part.ensures),
-  omega (arith, c.put_front-a.ensures.1, c.put_name-b.ensures.1, c.fit_part.ensures.next),
+pub fit_part-a-requires : goal.fit_part-a-requires
+fit_part-a-requires c = omega (arith, c.requires.1, ap length c.unary_front.ensures, (unary-few c.args.o).0)
+
+pub put_name-b-requires : goal.put_name-b-requires
+put_name-b-requires c = (
+  omega (arith, c.requires.0),
+  omega (arith, c.requires.1, c.fit_part-a.ensures.next, ap length c.unary_front.ensures, (unary-few c.args.o).0),
 )
+
+pub fit_part-requires : goal.fit_part-requires
+fit_part-requires c =
+    omega (
+      arith,
+      c.requires.1,
+      c.fit_part-a.ensures.next,
+      ap length c.unary_front.ensures,
+      ap length c.unary_back.ensures,
+      (unary-few c.args.o).0,
+      (unary-few c.args.o).1,
+      c.put_name-b.ensures.1,
+    )
 
 pub returns : goal.returns
 returns c = (
-  wrote_as (unary-text _ _ (search rules) c.requires.0 c.requires.1 c.if-code-eq18.false)
-      ((c.put_front-a.ensures.0 then c.put_name-b.ensures.0) then c.fit_byte.ensures),
-  omega (arith, c.put_front-a.ensures.1, c.put_name-b.ensures.1, c.fit_byte.ensures.next),
+  wrote_as (ap₂ (λ f b. f ++ slot_name c.args.k ++ b) c.unary_front.ensures c.unary_back.ensures ∙ unary-text c.args.k c.args.o)
+      ((c.fit_part-a.ensures then c.put_name-b.ensures.0) then c.fit_part.ensures),
+  omega (
+    arith,
+    c.fit_part-a.ensures.next,
+    c.fit_part.ensures.next,
+    ap length c.unary_front.ensures,
+    ap length c.unary_back.ensures,
+    (unary-few c.args.o).0,
+    (unary-few c.args.o).1,
+    c.put_name-b.ensures.1,
+  ),
 )

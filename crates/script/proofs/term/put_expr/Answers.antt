@@ -1,36 +1,63 @@
-use native.Mathlib.Omega.{arith}
-use Rattle.script.proofs.Terms.{PutOn, putting_start, putting_goes, put_on, put_all}
+-- Each token's binding stands behind the one before it; then x0, and a parenthesis for each.
+use Rattle.std.proofs.Common.{◌≡◌, ◌≤◌, length, refl, ap, ◌∙◌, arith}
+use Rattle.expr.specs.declared.File.TheVariants.{Trace}
+use Rattle.expr.specs.declared.token.Tokens.{Tokens}
+use Rattle.expr.specs.Token.{expr_bytes}
+use Rattle.expr.specs.Expr.{below, parse}
+use Rattle.expr.specs.Shown.{tokens_left, tokens_of}
+use Rattle.expr.proofs.Walks.{tokens-given, tokens-length, tokens-few}
+use Rattle.trace.specs.Shown.{symbol_room}
+use Rattle.script.proofs.Terms.{putting_start, putting_fits, fit, putting_more, put_on, put_all}
+use Rattle.script.proofs.term.put_expr.Goals.{After-into_iter-t-iterator}
 use Rattle.script.proofs.term.put_expr.Goals as goal
-use Rattle.script.proofs.term.put_expr.Goals.{After-struct_known-1}
 
-on : (c : After-struct_known-1) → PutOn c.loop-i.invariant
-    c.loop-i-test.true c.put_token-b.new.out
-    c.put_token-b.result.size c.put_token-b.result.depth
-    c.put_token-b.result.to
-on c =
-    put_on c.loop-i.invariant c.loop-i-test.true
-    c.put_token-b.ensures
+bytes : (c : After-into_iter-t-iterator)
+    → length (expr_bytes Trace (tokens_of (parse Trace (below symbol_room) c.args.e.now))) ≡ length c.args.e.now
+bytes c = tokens-length Trace (below symbol_room) c.args.e.now c.requires.0 (λ i h. (c.type_inv.e i).fits)
 
-pub loop-i-init : goal.loop-i-init
-loop-i-init c =
-    putting_start _ _ _ c.requires.0
+few : (c : After-into_iter-t-iterator) → length (tokens_of (parse Trace (below symbol_room) c.args.e.now)) ≤ length c.args.e.now
+few c = omega (arith, bytes c, tokens-few Trace (tokens_of (parse Trace (below symbol_room) c.args.e.now)))
 
-pub put_token-b-requires : goal.put_token-b-requires
-put_token-b-requires c = (
-  c.loop-i-test.true,
-  putting_goes c.loop-i.invariant c.loop-i-test.true,
-  omega
-      (arith, c.loop-i-test.true, c.loop-i.invariant.little, c.requires.1),
-)
+pub loop-t-init : goal.loop-t-init
+loop-t-init c =
+    putting_start c.args.e.now c.args.out.now c.args.at _ c.requires.0
+    (ap (λ (r : Tokens). tokens_left r) c.into_iter-t-iterator.ensures.into_iter_gives
+    ∙ tokens-given Trace _ _ c.requires.0 _ _ c.new-t-items.ensures.rest c.new-t-items.ensures.file refl)
 
-pub loop-i-smaller : goal.loop-i-smaller
-loop-i-smaller c =
-    let place = (goal.at.loop-i-smaller c).After-struct_known-1 in
-    omega (arith, (on place).onward.rest.inside, (on place).some_byte)
+pub put_token-to-requires : goal.put_token-to-requires
+put_token-to-requires c =
+    let v = c.loop-t.invariant in
+    let k = few (goal.at.put_token-to-requires c).After-into_iter-t-iterator in
+    (putting_fits v c.in-Some.ensures.steps, omega (arith, v.little, c.requires.1, k, putting_more v c.in-Some.ensures.steps))
 
-pub loop-i-preserved : goal.loop-i-preserved
-loop-i-preserved c = (on (goal.at.loop-i-preserved c).After-struct_known-1).onward
+pub overflow_sub-depth : goal.overflow_sub-depth
+overflow_sub-depth c = omega (arith, c.pops.ensures, (fit c.loop-t.invariant c.in-Some.ensures.steps).enough)
+
+pub overflow_add-count : goal.overflow_add-count
+overflow_add-count c = record {
+  fits =
+      omega (
+        arith,
+        c.requires.1,
+        few (goal.at.overflow_add-count c).After-into_iter-t-iterator,
+        putting_more c.loop-t.invariant c.in-Some.ensures.steps,
+      );
+}
+
+pub loop-t-preserved : goal.loop-t-preserved
+loop-t-preserved c = put_on c.loop-t.invariant c.in-Some.ensures.steps (omega (arith, c.pops.ensures)) c.put_token-to.ensures
+
+pub put_name-a-requires : goal.put_name-a-requires
+put_name-a-requires c =
+    let v = c.loop-t.invariant in
+    (omega arith, omega (arith, v.little, v.count, c.requires.1, few (goal.at.put_name-a-requires c).After-into_iter-t-iterator))
+
+pub put_closings-requires : goal.put_closings-requires
+put_closings-requires c =
+    let v = c.loop-t.invariant in
+    omega (arith, v.little, v.count, c.requires.1, c.put_name-a.ensures.1, few (goal.at.put_closings-requires c).After-into_iter-t-iterator)
 
 pub returns : goal.returns
 returns c =
-    put_all c.loop-i.invariant c.loop-i-test.false c.put_name-a.ensures c.put_closings.ensures
+    let k = put_all c.loop-t.invariant c.in-None.ensures.steps.0 c.put_name-a.ensures c.put_closings.ensures in
+    (k.0, omega (arith, k.1, bytes (goal.at.returns c).After-into_iter-t-iterator))
