@@ -8,10 +8,10 @@ use native.Mathlib.Decide.{dec_lt}
 use mathlib.Core.Path.{◌≡◌, refl, sym, ap, ap₂, ◌∙◌, subst}
 use mathlib.Core.Logic.{◌⊎◌, inl, inr}
 use mathlib.Core.Bool.{Bool, true, false, cond}
-use mathlib.Core.Option.{Option, none, some}
+use Rattle.std.specs.Prelude.{Option, None, Some}
 use mathlib.Core.List.{List, []}
 use lib.ListN.{length, drop, get_or, length-drop, get_or-eq_default, drop_of_length-le}
-use lib.Dec.{eqb}
+use lib.Dec.{eqb, ltb}
 use borrow.Author.Tests.{eqb-true, eqb-false, ne_eqb, lt-ltb, le-ltb}
 use Rattle.expr.specs.declared.File.{File}
 use Rattle.expr.specs.declared.File.TheVariants.{Table, Trace}
@@ -27,8 +27,8 @@ use Rattle.expr.specs.Token.{operator, read_token}
 use Rattle.expr.specs.TokenLaws.{IsOperator, operator-is, operator-count}
 use Rattle.expr.specs.Expr.{depth_limit, pops, after, fits, Parsed, Whole, Breaks, also, on_token, parse_from, parse}
 use Rattle.expr.proofs.ExprLaws.{fits-is, fits_const, fits-symbol, fits-operator, on-token, token-at, end-at}
-use Rattle.expr.specs.Shown.{popped, pops_of}
-use Rattle.expr.proofs.Reading.{pops-by_range, pops-ite, constant-there, constant-short, symbol-there, symbol-short, operator-there}
+use Rattle.expr.specs.Lists.{every, every-below}
+use Rattle.expr.proofs.Reading.{constant-there, constant-short, symbol-there, symbol-short, operator-there}
 use Rattle.demands.specs.Expression.{symbol_byte, symbol_bytes, most_words, Keeps, constant, symbol, unary, binary, ite, Kept, nothing}
 use Rattle.demands.specs.Expression.{token}
 use Rattle.demands.specs.Expression.{IsExpr, BreaksAt, at-token, at-end}
@@ -46,6 +46,28 @@ same_width Table = refl
 same_width Trace = refl
 
 -- ---- operators by their codes
+
+-- how many words the operator of a code pops
+abbrev popped : Option Token → ℕ
+popped None = 0
+popped (Some t) = pops t
+
+pops_of : (code : ℕ) → ℕ
+pops_of b = popped (operator b)
+
+abbrev pops_by_range : ℕ → ℕ
+pops_by_range b = cond (ltb b 0x10) 0 (cond (ltb b 0x13) 1 (cond (ltb b 0x20) 0 (cond (ltb b 0x2E) 2 (cond (eqb b 0x30) 3 0))))
+
+computed : every 256 (λ b. eqb (pops_of b) (pops_by_range b)) ≡ true
+unfolding pops_of operator
+computed = refl
+
+pops-by_range : (b : ℕ) → b < 256 → pops_of b ≡ pops_by_range b
+pops-by_range b h = eqb-true (pops_of b) (pops_by_range b) (every-below 256 (λ b. eqb (pops_of b) (pops_by_range b)) computed b h)
+
+pops-ite : pops_of 0x30 ≡ 3
+unfolding pops_of operator
+pops-ite = refl
 
 unary-code : (o : Unary) → (0x10 ≤ unary_code o) × (unary_code o ≤ 0x12)
 unary-code Not = (omega arith, omega arith)
@@ -72,13 +94,13 @@ symbol-code-low : (F : File) → symbol_code F ≤ 3
 symbol-code-low Table = omega arith
 symbol-code-low Trace = omega arith
 
-some_same : {A : Type 0} {a b : A} → some a ≡ some b → a ≡ b
+some_same : {A : Type 0} {a b : A} → Some a ≡ Some b → a ≡ b
 some_same h = cc
 
 -- a byte that pops is an operator's
 record Operates (b : ℕ) : Type 0 where
   acts : Token
-  by : operator b ≡ some acts
+  by : operator b ≡ Some acts
   operates : IsOperator acts
   popping : pops acts ≡ pops_of b
 
@@ -87,8 +109,8 @@ unfolding pops_of
 operates b p e h = go (operator b) refl
   where
     go : (o : Option Token) → operator b ≡ o → Operates b
-    go none q = absurd (omega (arith, e, ap popped q))
-    go (some t) q = record { acts = t; by = q; operates = (operator-is b t q).1; popping = sym (ap popped q) }
+    go None q = absurd (omega (arith, e, ap popped q))
+    go (Some t) q = record { acts = t; by = q; operates = (operator-is b t q).1; popping = sym (ap popped q) }
 
 -- ---- one token
 
@@ -108,7 +130,7 @@ module _ (F : File) (may : ℕ → Bool) (e : List ℕ) (i d : ℕ) where
   -- the token that the reader finds, of so many bytes and leaving so many words
   record Found (size left : ℕ) : Type 0 where
     found : Token
-    is_read : read_token F (drop i e) ≡ some found
+    is_read : read_token F (drop i e) ≡ Some found
     fit : fits may (depth_limit F) d found ≡ true
     bytes : suc (operand_count F found) ≡ size
     leaves : after d found ≡ left
@@ -167,9 +189,9 @@ module _ (F : File) (may : ℕ → Bool) (e : List ℕ) (i d : ℕ) where
   abbrev SomeKeeps : Type 0
   SomeKeeps = (size : ℕ) × (left : ℕ) × Keeps F may e i d size left
 
-  module _ (h : i < length e) (t : Token) (read : read_token F (drop i e) ≡ some t) (fit : fits may (depth_limit F) d t ≡ true) where
+  module _ (h : i < length e) (t : Token) (read : read_token F (drop i e) ≡ Some t) (fit : fits may (depth_limit F) d t ≡ true) where
     -- what is not there is not read
-    there : (k : ℕ) → (length e - i - 1 < k → read_token F (drop i e) ≡ none) → k ≤ length e - i - 1
+    there : (k : ℕ) → (length e - i - 1 < k → read_token F (drop i e) ≡ None) → k ≤ length e - i - 1
     there k short =
         elim (dec_lt (length e - i - 1) k) [
           | yes l ↦ absurd (let q = sym read ∙ short l in let z : ◌≡◌ {A = ℕ} 0 1 = cc in omega arith)
@@ -220,14 +242,14 @@ module _ (F : File) (may : ℕ → Bool) (e : List ℕ) (i d : ℕ) where
 
 -- the bytes that an expression breaks at
 abbrev broken_in : Parsed → Option (List ℕ)
-broken_in (Whole t) = none
-broken_in (Breaks bs) = some bs
+broken_in (Whole t) = None
+broken_in (Breaks bs) = Some bs
 
 broken_also : (t : Token) (p : Parsed) → broken_in (also t p) ≡ broken_in p
 broken_also t (Whole e) = refl
 broken_also t (Breaks bs) = refl
 
-broken_is : (p : Parsed) (bs : List ℕ) → broken_in p ≡ some bs → p ≡ Breaks bs
+broken_is : (p : Parsed) (bs : List ℕ) → broken_in p ≡ Some bs → p ≡ Breaks bs
 broken_is (Whole e) bs h = absurd (let z : ◌≡◌ {A = ℕ} 0 1 = cc in omega arith)
 broken_is (Breaks xs) bs h = ap {B = Parsed} Breaks (some_same h)
 
@@ -275,14 +297,14 @@ module _ (F : File) (may : ℕ → Bool) (e : List ℕ) where
       on : ℕ → ℕ → Parsed
       on c m = parse_from F may c 0 (drop (i + suc m) e)
 
-      fit : (t : Token) → read_token F (drop i e) ≡ some t → (x : Bool) → fits may (depth_limit F) d t ≡ x
+      fit : (t : Token) → read_token F (drop i e) ≡ Some t → (x : Bool) → fits may (depth_limit F) d t ≡ x
           → cond x (also t (on (after d t) (operand_count F t))) (Breaks (drop i e)) ≡ Breaks (drop i e)
       fit t q true f = absurd (let k = fits-keeps F may e i d h t q f in none-keeps k.0 k.1 k.2)
       fit t q false f = refl
 
       go : (o : Option Token) → read_token F (drop i e) ≡ o → on_token F may d (drop i e) o on ≡ Breaks (drop i e)
-      go none q = refl
-      go (some t) q = fit t q (fits may (depth_limit F) d t) refl
+      go None q = refl
+      go (Some t) q = fit t q (fits may (depth_limit F) d t) refl
 
   -- where the rules break, reading does
   breaks_reading : (i : ℕ) → BreaksAt F may e i → (parse F may e ≡ Breaks (drop i e)) × (i ≤ length e)
@@ -292,7 +314,7 @@ module _ (F : File) (may : ℕ → Bool) (e : List ℕ) where
     broken_is (parse F may e) (drop i e) (
         sym (kept_same i d k)
         ∙ ap broken_in (end-at F may d e i (omega arith) ∙ ap (λ b. cond b (Whole []) (Breaks [])) (ne_eqb d 1 other))
-        ∙ ap some (sym (drop_of_length-le e {i = i} (omega arith)))),
+        ∙ ap Some (sym (drop_of_length-le e {i = i} (omega arith)))),
     kept-inside i d k,
   )
 
@@ -305,7 +327,7 @@ module _ (F : File) (may : ℕ → Bool) (e : List ℕ) where
       omega (arith, p.1, q.1, ap length same, length-drop i e, length-drop j e)
 
   -- and not in an expression
-  whole_reading : IsExpr F may e → broken_in (parse F may e) ≡ none
+  whole_reading : IsExpr F may e → broken_in (parse F may e) ≡ None
   whole_reading k = sym (kept_same (length e) 1 k) ∙ ap broken_in (end-at F may 1 e (length e) (omega arith))
 
   pub unbroken : IsExpr F may e → (i : ℕ) → BreaksAt F may e i → ⊥
@@ -332,7 +354,7 @@ module _ (F : File) (may : ℕ → Bool) (e : List ℕ) where
       keeps : (size left : ℕ) → Keeps F may e i d size left → Found F may e i d size left
       keeps = keeps-fits F may e i d (few_words i d k)
 
-      fit : (t : Token) → read_token F (drop i e) ≡ some t → (x : Bool) → fits may (depth_limit F) d t ≡ x → Decides
+      fit : (t : Token) → read_token F (drop i e) ≡ Some t → (x : Bool) → fits may (depth_limit F) d t ≡ x → Decides
       fit t q true f =
           let s = fits-keeps F may e i d h t q f in
           let size = (keeps s.0 s.1 s.2).bytes in
@@ -347,12 +369,12 @@ module _ (F : File) (may : ℕ → Bool) (e : List ℕ) where
       )
 
       go : (o : Option Token) → read_token F (drop i e) ≡ o → Decides
-      go none q = inr (
+      go None q = inr (
         i,
         at-token d k h (λ size left s.
             let p = sym q ∙ (keeps size left s).is_read in let z : ◌≡◌ {A = ℕ} 0 1 = cc in omega arith),
       )
-      go (some t) q = fit t q (fits may (depth_limit F) d t) refl
+      go (Some t) q = fit t q (fits may (depth_limit F) d t) refl
 
   walked : (m i d : ℕ) → Kept F may e i d → length e ≤ i + m → Decides
   walked zero i d k l = ended i d k (omega (arith, kept-inside i d k))

@@ -1,5 +1,5 @@
 -- The text of an operator's word: what stands in front, the variables, and what stands behind.
-use Rattle.std.proofs.Common.{◌≡◌, ℕ, ◌+◌, ◌≤◌, List, [], ◌∷◌, ◌++◌, length, refl, sym, ap, ◌∙◌, arith}
+use Rattle.std.proofs.Common.{◌≡◌, ℕ, ◌+◌, ◌≤◌, List, [], ◌∷◌, ◌++◌, length, refl, sym, ap, arith}
 use Rattle.expr.specs.declared.word.Unary.{Unary}
 use Rattle.expr.specs.declared.word.Unary.TheVariants.{Not, Neg, Zero}
 use Rattle.expr.specs.declared.word.Binary.{Binary}

@@ -6,10 +6,7 @@ use Rattle.std.proofs.Common.{length-append}
 use Rattle.expr.specs.declared.File.TheVariants.{Table, Trace}
 use Rattle.expr.specs.declared.token.Token.{Token}
 use Rattle.expr.specs.declared.token.Token.TheVariants.{Const, Symbol, Un, Bin, Ite}
-use Rattle.expr.specs.Lists.{All}
-use Rattle.expr.specs.Number.{Byte}
-use Rattle.expr.specs.NumberLaws.{bytes_of-length}
-use Rattle.expr.specs.Token.{token_bytes, operand_count, expr_bytes}
+use Rattle.expr.specs.Token.{token_bytes, expr_bytes}
 use Rattle.expr.specs.Expr.{below, reads_only, parse}
 use Rattle.expr.specs.Eval.{rename_token, rename}
 use Rattle.expr.specs.Shown.{is_whole, tokens_of}
@@ -18,7 +15,7 @@ use Rattle.write.specs.Splice.{Wrote}
 use Rattle.write.specs.SpliceLaws.{Ahead, ahead_start, ahead_step, ahead_end, ahead_room}
 use Rattle.unwind.specs.Size.{expr_size}
 use Rattle.unwind.proofs.SizeLaws.{size-rename}
-use Rattle.unwind.specs.Shown.{current_of, known}
+use Rattle.unwind.specs.Shown.{current_of}
 
 -- where a list has an element, it does not matter what stands for a missing one
 get_or-inside : (xs : List ℕ) (i : ℕ) → i < length xs → (d e : ℕ) → get_or xs i d ≡ get_or xs i e
@@ -80,5 +77,10 @@ little_token Ite = omega arith
 pub little : (e : List Token) → expr_size e ≤ 2 * length (expr_bytes Table e)
 little [] = omega arith
 little (t ∷ e) =
-    omega (arith, little_token t, little e, length-append (token_bytes Trace t) (expr_bytes Trace e),
-    length-append (token_bytes Table t) (expr_bytes Table e))
+    omega (
+      arith,
+      little_token t,
+      little e,
+      length-append (token_bytes Trace t) (expr_bytes Trace e),
+      length-append (token_bytes Table t) (expr_bytes Table e),
+    )

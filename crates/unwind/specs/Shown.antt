@@ -1,10 +1,6 @@
 -- What the code's values mean: its answers as functions of the definitions.
-use Rattle.std.specs.Prelude.{ℕ, ◌≡◌, Bool, List, [], get_or}
-use Rattle.expr.specs.declared.File.TheVariants.{Trace}
-use Rattle.expr.specs.declared.token.Token.{Token}
-use Rattle.expr.specs.Token.{token_bytes}
+use Rattle.std.specs.Prelude.{ℕ, ◌≡◌, Bool, List, get_or}
 use Rattle.expr.specs.Expr.{below}
-use Rattle.expr.specs.Eval.{rename_token}
 use Rattle.file.specs.Outcome.{Bound}
 use Rattle.file.specs.File.{input_room, Body, Good, Bad, records_bytes}
 use Rattle.table.specs.Table.{Instr}

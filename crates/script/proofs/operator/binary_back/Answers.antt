@@ -1,5 +1,5 @@
 -- Each arm gives what stands behind its operators.
-use Rattle.std.proofs.Common.{◌≡◌, ◌⊎◌, List, ℕ, refl, inl, inr}
+use Rattle.std.proofs.Common.{◌≡◌, ◌⊎◌, refl, inl, inr}
 use Rattle.expr.specs.declared.word.Binary.{Binary}
 use Rattle.expr.specs.declared.word.Binary.TheVariants.{Add, Sub, Mul, Udiv, Urem, And, Or, Xor, Shl, Lshr, Equal, Ult, Ule, Slt}
 use Rattle.write.specs.Ascii.{ascii}

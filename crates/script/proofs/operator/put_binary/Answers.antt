@@ -1,5 +1,5 @@
 -- What stands in front, the variables, and what stands behind.
-use Rattle.std.proofs.Common.{◌+◌, ◌++◌, length, sym, ap, ap₂, ◌∙◌, arith}
+use Rattle.std.proofs.Common.{◌+◌, ◌++◌, length, ap, ap₂, ◌∙◌, arith}
 use Rattle.write.specs.SpliceLaws.{◌then◌, wrote_as}
 use Rattle.write.specs.Ascii.{ascii}
 use Rattle.script.specs.ScriptText.{slot_name}

@@ -1,5 +1,5 @@
 -- Each arm gives what stands behind its operators.
-use Rattle.std.proofs.Common.{◌≡◌, ◌⊎◌, List, ℕ, refl, inl, inr}
+use Rattle.std.proofs.Common.{◌≡◌, ◌⊎◌, refl, inl, inr}
 use Rattle.expr.specs.declared.word.Unary.{Unary}
 use Rattle.expr.specs.declared.word.Unary.TheVariants.{Not, Neg}
 use Rattle.write.specs.Ascii.{ascii}

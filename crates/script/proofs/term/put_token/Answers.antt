@@ -1,10 +1,9 @@
 -- The variable is the place of the word that the token pushes.
-use Rattle.std.proofs.Common.{◌-◌, ◌++◌, ap, ◌∙◌, arith}
+use Rattle.std.proofs.Common.{◌-◌, ap, arith}
 use Rattle.expr.specs.Expr.{below}
 use Rattle.expr.proofs.ExprLaws.{Fits, fits-is}
 use Rattle.trace.specs.Shown.{symbol_room}
 use Rattle.write.specs.SpliceLaws.{◌then◌, wrote_as}
-use Rattle.write.specs.Ascii.{ascii}
 use Rattle.script.specs.Script.{token_term}
 use Rattle.script.specs.ScriptText.{term_text}
 use Rattle.script.specs.Shown.{binding_of}

@@ -1,5 +1,5 @@
 -- A space, and then the token's text.
-use Rattle.std.proofs.Common.{◌≡◌, ◌+◌, ◌*◌, ◌≤◌, ◌++◌, List, ℕ, length, sym, ap, ◌∙◌, subst, arith, ltb-true, true}
+use Rattle.std.proofs.Common.{◌≡◌, ◌≤◌, ◌++◌, length, sym, ap, ◌∙◌, subst, arith, ltb-true, true}
 use Rattle.expr.specs.declared.File.TheVariants.{Trace}
 use Rattle.expr.specs.declared.word.Unary.{Unary}
 use Rattle.expr.specs.declared.word.Unary.TheVariants.{Not, Neg, Zero}
@@ -9,7 +9,6 @@ use Rattle.expr.specs.Token.{operand_count}
 use Rattle.expr.specs.Expr.{below, reads_only}
 use Rattle.trace.specs.Shown.{symbol_room}
 use Rattle.trace.specs.TraceLaws.{symbols-few}
-use Rattle.write.specs.Splice.{Wrote}
 use Rattle.write.specs.SpliceLaws.{◌then◌, wrote_as}
 use Rattle.write.specs.Ascii.{ascii}
 use Rattle.show.specs.Text.{unary_name, binary_name, token_text}

@@ -1,5 +1,5 @@
 -- Each token adds its bytes; all of them are at most twice as many as the table has.
-use Rattle.std.proofs.Common.{◌≡◌, ◌*◌, ◌≤◌, refl, sym, ap, ◌∙◌, length, arith}
+use Rattle.std.proofs.Common.{◌≡◌, ◌*◌, ◌≤◌, refl, ap, ◌∙◌, length, arith}
 use Rattle.expr.specs.declared.File.TheVariants.{Table, Trace}
 use Rattle.expr.specs.declared.token.Tokens.{Tokens}
 use Rattle.expr.specs.Expr.{parse}
@@ -13,8 +13,11 @@ use Rattle.unwind.proofs.tokens.expr_size.Goals as goal
 
 small : (c : After-into_iter-t-iterator) → expr_size (tokens_of (parse Table known c.args.e.now)) ≤ 2 * length c.args.e.now
 small c =
-    omega (arith, little (tokens_of (parse Table known c.args.e.now)),
-    tokens-length Table known c.args.e.now c.requires.0 (λ i h. (c.type_inv.e i).fits))
+    omega (
+      arith,
+      little (tokens_of (parse Table known c.args.e.now)),
+      tokens-length Table known c.args.e.now c.requires.0 (λ i h. (c.type_inv.e i).fits),
+    )
 
 pub loop-t-init : goal.loop-t-init
 loop-t-init c =
@@ -25,8 +28,14 @@ loop-t-init c =
 pub overflow_add-size : goal.overflow_add-size
 overflow_add-size c = record {
   fits =
-      omega (arith, c.requires.1, c.loop-t.invariant, c.size-size.ensures, left-length Trace c.in-Some.ensures.steps,
-      small (goal.at.overflow_add-size c).After-into_iter-t-iterator);
+      omega (
+        arith,
+        c.requires.1,
+        c.loop-t.invariant,
+        c.size-size.ensures,
+        left-length Trace c.in-Some.ensures.steps,
+        small (goal.at.overflow_add-size c).After-into_iter-t-iterator,
+      );
 }
 
 pub loop-t-preserved : goal.loop-t-preserved
