@@ -1,6 +1,6 @@
 // Which bytes are an expression.
 ghost use Rattle.std.specs.Prelude.{◌≡◌, ◌≤◌, length};
-ghost use Rattle.expr.specs.Expr.{depth_limit, reads_only, readable, parse};
+ghost use Rattle.expr.specs.Expr.{depth_limit, readable, parse};
 ghost use Rattle.expr.specs.Shown.{left_by, checked};
 
 use super::token::Token;
@@ -24,31 +24,21 @@ fn may_read(symbol: usize, inputs: usize, assigned: &[bool]) -> bool
     symbol < inputs || (symbol < assigned.len() && assigned[symbol])
 }
 
-// Whether a token reads only what may be read.
-fn reads_only(t: Token, inputs: usize, assigned: &[bool]) -> bool
-    ensures { result ≡ reads_only (readable inputs assigned.now) t }
-{
-    match t {
-        Token::Symbol(symbol) => may_read(symbol, inputs, assigned),
-        _ => true,
-    }
-}
-
 // The depth that a token leaves, if it may stand where so many words are held.
 #[tactic(auto, unfolding(crate::specs::Expr::fits))]
 fn left_by(t: Token, file: File, inputs: usize, assigned: &[bool], depth: usize) -> Option<usize>
     requires { depth ≤ depth_limit file }
     ensures { result ≡ left_by (readable inputs assigned.now) (depth_limit file) depth t }
 {
-    let pops = t.pops();
-    if depth < pops {
-        return None;
+    let limit = file.depth_limit();
+    match t {
+        Token::Const(_) if depth < limit => Some(depth + 1),
+        Token::Symbol(s) if depth < limit && may_read(s, inputs, assigned) => Some(depth + 1),
+        Token::Un(_) if 1 <= depth => Some(depth),
+        Token::Bin(_) if 2 <= depth => Some(depth - 1),
+        Token::Ite if 3 <= depth => Some(depth - 2),
+        _ => None,
     }
-    let deep = depth - pops + 1;
-    if deep <= file.depth_limit() && reads_only(t, inputs, assigned) {
-        return Some(deep);
-    }
-    None
 }
 
 // An expression reads inputs, which are below `inputs`, and symbols whose entry in `assigned` is set. What is no expression is refused at

@@ -178,6 +178,7 @@ impl<'a> Iterator for Tokens<'a> {
 
     ghost remaining = { item_count tokens_left };
 
+    #[inline(always)]
     fn next(&mut self) -> Option<Token> {
         if self.rest.is_empty() {
             return None;
