@@ -11,8 +11,7 @@ use Rattle.expr.specs.Number.{number_of}
 use Rattle.expr.specs.Expr.{below, parse}
 use Rattle.file.specs.Outcome.{Assume, Assert}
 use Rattle.file.specs.File.{AtRecord, rule, holding}
-use Rattle.file.specs.declared.Fault.{Fault}
-use Rattle.file.specs.Shown.{fault_at, fault_of, expr_fault}
+use Rattle.file.specs.Shown.{Fault, fault_at, fault_of, expr_fault}
 use Rattle.file.proofs.FileLaws.{field_there, field_missing, fault_holding}
 use Rattle.table.specs.Table.{Assign, Test, IfThenGoto, assign, if_then_goto, instr}
 use Rattle.table.specs.TableLaws.{kind-assign, kind-assume, kind-assert, kind_goto, kind-unknown}

@@ -6,4 +6,4 @@ use Rattle.file.proofs.expr_fault.Goals as goal
 pub returns-in-Broken : goal.returns-in-Broken
 returns-in-Broken c =
     expr_broken c.args.f (readable c.args.inputs c.args.assigned.now) c.args.from c.args.body.now c.requires _
-    (sym c.check_expr-c.ensures ∙ c.in-Broken.is)
+    (sym c.check_expr.ensures ∙ c.in-Broken.is)
