@@ -6,7 +6,8 @@ ghost use Rattle.expr.specs.Expr.{parse};
 ghost use Rattle.file.specs.File.{input_room, header_size, record_of};
 ghost use Rattle.file.specs.Shown.{fault_in, fault_of, expr_fault, is_good};
 ghost use Rattle.trace.specs.Trace.{stmt, is_trace, tells_bound};
-ghost use Rattle.trace.specs.Shown.{known_test, test_kind, expr_start, expr_part, action_at, seen_in, first_seen, learnt, ReadRecords, ReadTrace};
+ghost use Rattle.trace.specs.Shown.{known_test, test_kind, expr_start, expr_part, action_at};
+ghost use Rattle.trace.specs.Shown.{seen_in, first_seen, learnt, ReadRecords, ReadTrace};
 
 use super::{OLD_VERSION, SYMBOL_ROOM, VERSION};
 use expr::{File, number};
