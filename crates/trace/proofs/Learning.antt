@@ -1,26 +1,24 @@
 -- What a statement that is read adds to what may be read and assigned after it.
-use Prim.Native.Nat.{ℕ, suc, ◌+◌}
+use Prim.Native.Nat.{ℕ, ◌+◌}
 use native.Mathlib.Numerals.{add-one}
 use mathlib.Core.Path.{◌≡◌, sym, ap, ◌∙◌}
-use mathlib.Core.Bool.{Bool, true}
+use mathlib.Core.Bool.{true}
 use mathlib.Core.List.{List}
-use lib.ListN.{drop, get_or, set}
-use Rattle.expr.specs.Number.{number_of}
+use lib.ListN.{drop, set}
+use Rattle.file.specs.Outcome.{Kind}
 use Rattle.file.specs.File.{Body, Good, record_of}
+use Rattle.trace.specs.declared.read.Action.TheVariants as A
+use Rattle.trace.specs.declared.read.Seen as Code
 use Rattle.trace.specs.Trace.{Stmt, Seen, stmt}
-use Rattle.trace.specs.Shown.{least_after, marked_by}
-use Rattle.trace.proofs.Held.{Held}
+use Rattle.trace.specs.Shown.{action_at, learnt}
+use Rattle.trace.proofs.Held.{Held, acts-assign, acts-test}
 
-module _ {top : ℕ} {σ : Seen} {s : List ℕ} {at : ℕ} (h : Held top σ s at) (l : ℕ) (marks : List Bool) where
-  pub learns_symbol : (y : ℕ) → get_or s (at + 2) 0 ≡ 1 → y ≡ number_of 2 (drop (at + 5) s)
-      → (y + 1 ≡ least_after (record_of (stmt top σ) (drop at s)) l)
-      × (set marks y true ≡ marked_by (record_of (stmt top σ) (drop at s)) marks)
-  learns_symbol y k q =
-      let a = h.is ∙ ap {B = Body Stmt} Good (h.assigns k).0 in
-      (add-one y ∙ ap suc q ∙ sym (ap (λ b. least_after b l) a), ap (λ y. set marks y true) q ∙ sym (ap (λ b. marked_by b marks) a))
+module _ {top : ℕ} {σ : Seen} {s : List ℕ} {at : ℕ} (h : Held top σ s at) (v : Code.Seen) where
+  pub learns_symbol : (y : ℕ) → action_at s at ≡ A.Assign y
+      → record v { least = y + 1; assigned = set v.assigned y true } ≡ learnt (record_of (stmt top σ) (drop at s)) v
+  learns_symbol y k =
+      ap {B = Code.Seen} (λ l. record v { least = l; assigned = set v.assigned y true }) (add-one y)
+      ∙ sym (ap (λ b. learnt b v) (h.is ∙ ap {B = Body Stmt} Good (acts-assign h y k).0))
 
-  pub learns_nothing : (get_or s (at + 2) 0 ≡ 1 → ⊥)
-      → (l ≡ least_after (record_of (stmt top σ) (drop at s)) l) × (marks ≡ marked_by (record_of (stmt top σ) (drop at s)) marks)
-  learns_nothing k =
-      let a = h.is ∙ ap {B = Body Stmt} Good (h.tests k).0 in
-      (sym (ap (λ b. least_after b l) a), sym (ap (λ b. marked_by b marks) a))
+  pub learns_nothing : (k : Kind) → action_at s at ≡ A.Test k → v ≡ learnt (record_of (stmt top σ) (drop at s)) v
+  learns_nothing k q = sym (ap (λ b. learnt b v) (h.is ∙ ap {B = Body Stmt} Good (acts-test h k q)))

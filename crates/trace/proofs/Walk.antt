@@ -1,4 +1,4 @@
--- The loop over a trace's records: the array of marks and the least symbol are the state that the definition carries from record to record.
+-- The loop over a trace's records: what the code has seen is the state that the definition carries from record to record.
 use Prim.Native.Nat.{ℕ, suc, ◌+◌, ◌≤◌, ◌<◌}
 use native.Mathlib.Omega.{arith}
 use mathlib.Core.Path.{◌≡◌, refl, sym, ap, ◌∙◌, subst, fun_ext}
@@ -16,7 +16,8 @@ use Rattle.file.proofs.FileLaws.{same_everywhere}
 use Rattle.file.proofs.WalkLaws as Records
 use Rattle.trace.specs.Trace.{Stmt, Assign, Test, Seen, see, stmt}
 use Rattle.trace.specs.TraceLaws.{symbol-room, assigned-below}
-use Rattle.trace.specs.Shown.{symbol_room, seen, unseen, least_after, mark, marked_by}
+use Rattle.trace.specs.declared.read.Seen as Code
+use Rattle.trace.specs.Shown.{symbol_room, seen, seen_in, first_seen, unseen, learnt}
 
 -- ---- the array of marks follows the definition's state
 
@@ -31,15 +32,19 @@ marked-readable S marks x h = fun_ext (λ y. go y (eqb y x) refl)
         ∙ or_right (ltb x S) true refl
     go y false e = ap (λ b. ltb y S || b) (get_or-set_other marks x y true false (λ z. eqb-false y x e z))
 
-seen-after : (S l : ℕ) (marks : List Bool) (b : Bool) (x : Stmt) → ((p y : ℕ) (e : List Token) → x ≡ Assign p y e → y < length marks)
-    → seen S (least_after (Good x) l) (mark marks x) b ≡ see (seen S l marks b) x
-seen-after S l marks b (Assign p y e) h =
-    ap (λ r. record { readable = r; least = suc y; bounds = b }) (marked-readable S marks y (h p y e refl))
-seen-after S l marks b (Test k p e) h = refl
+seen-after : (v : Code.Seen) (x : Stmt) → ((p y : ℕ) (e : List Token) → x ≡ Assign p y e → y < length v.assigned)
+    → seen_in (learnt (Good x) v) ≡ see (seen_in v) x
+seen-after v (Assign p y e) h =
+    ap (λ r. record { readable = r; least = suc y; bounds = v.bounds }) (marked-readable v.inputs v.assigned y (h p y e refl))
+seen-after v (Test k p e) h = refl
 
-mark-length : (marks : List Bool) (x : Stmt) → length (mark marks x) ≡ length marks
-mark-length marks (Assign p y e) = length-set marks y true
-mark-length marks (Test k p e) = refl
+learnt-length : (x : Stmt) (v : Code.Seen) → length (learnt (Good x) v).assigned ≡ length v.assigned
+learnt-length (Assign p y e) v = length-set v.assigned y true
+learnt-length (Test k p e) v = refl
+
+learnt-inputs : (x : Stmt) (v : Code.Seen) → (learnt (Good x) v).inputs ≡ v.inputs
+learnt-inputs (Assign p y e) v = refl
+learnt-inputs (Test k p e) v = refl
 
 -- at first none is marked
 none_marked : (S : ℕ) (b : Bool) (n : ℕ) → seen S S (replicate n false) b ≡ unseen S b
@@ -49,45 +54,48 @@ none_marked S b n =
 
 -- ---- the loop
 
-pub record Walking (s : List ℕ) (S : ℕ) (b : Bool) (n : ℕ) (off₀ : List ℕ) (off : List ℕ) (marks : List Bool)
-    (at k least : ℕ) : Type 0 where
-  pub walk : Records.Walking (stmt (S + 4096)) see s n (unseen S b) off₀ off at k (seen S least marks b)
-  pub long : length marks ≡ symbol_room
+pub record Walking (s : List ℕ) (S : ℕ) (b : Bool) (n : ℕ) (off₀ : List ℕ) (off : List ℕ) (v : Code.Seen) (at k : ℕ) : Type 0 where
+  pub walk : Records.Walking (stmt (S + 4096)) see s n (unseen S b) off₀ off at k (seen_in v)
+  pub inputs : v.inputs ≡ S
+  pub long : length v.assigned ≡ symbol_room
 
 module _ (s : List ℕ) (S : ℕ) (b : Bool) (n : ℕ) (off₀ : List ℕ) where
-  pub start : {at : ℕ} → at ≡ header_size s → header_size s ≤ length s → Walking s S b n off₀ off₀ (replicate symbol_room false) at 0 S
-  start {at} e h = record {
+  pub start : {at : ℕ} → at ≡ header_size s → header_size s ≤ length s → {v : Code.Seen} → v ≡ first_seen S b
+      → Walking s S b n off₀ off₀ v at 0
+  start {at} e h q = subst (λ v. Walking s S b n off₀ off₀ v at 0) (sym q) (record {
     walk =
         subst (Records.Walking (stmt (S + 4096)) see s n (unseen S b) off₀ off₀ at 0) (sym (none_marked S b symbol_room))
         (Records.start (stmt (S + 4096)) see s n (unseen S b) off₀ e h);
+    inputs = refl;
     long = length-replicate symbol_room false;
-  }
+  })
 
-  -- with the code's own length of the record, marks and least symbol
-  pub on : S ≤ input_room → {off : List ℕ} {marks : List Bool} {at k least : ℕ} → Walking s S b n off₀ off marks at k least → k < n
-      → (x : Stmt) → record_of (stmt (S + 4096) (seen S least marks b)) (drop at s) ≡ Good x → (len : ℕ) → len ≡ frame (drop at s)
-      → at + (2 + len) ≤ length s
-      → (marks' : List Bool) → marks' ≡ marked_by (record_of (stmt (S + 4096) (seen S least marks b)) (drop at s)) marks
-      → (least' : ℕ) → least' ≡ least_after (record_of (stmt (S + 4096) (seen S least marks b)) (drop at s)) least
-      → Walking s S b n off₀ (set off k at) marks' (at + (2 + len)) (k + 1) least'
-  on small {off} {marks} {at} {k} {least} w h x e len le i marks' me least' se =
-      let σ = seen S least marks b in
-      let small-enough : (p y : ℕ) (t : List Token) → x ≡ Assign p y t → y < length marks
-      = λ p y t q. omega (
-        arith,
-        assigned-below (S + 4096) σ (drop at s) p y t
-            (e ∙ ap {B = Body Stmt} Good q),
-        w.long,
-        small,
-        symbol-room,
-      ) in
-      let walking : Walking s S b n off₀ (set off k at) (mark marks x) (at + (2 + len)) (k + 1) (least_after (Good x) least) = record {
-        walk =
-            subst (Records.Walking (stmt (S + 4096)) see s n (unseen S b) off₀ (set off k at) (at + (2 + len)) (k + 1))
-            (sym (seen-after S least marks b x small-enough))
-            (Records.on (stmt (S + 4096)) see s n (unseen S b) off₀ w.walk h x e len le i);
-        long = mark-length marks x ∙ w.long;
-      } in
-      subst (λ m. Walking s S b n off₀ (set off k at) m (at + (2 + len)) (k + 1) least') (sym (me ∙ ap (λ x. marked_by x marks) e))
-      (subst (Walking s S b n off₀ (set off k at) (mark marks x) (at + (2 + len)) (k + 1)) (sym (se ∙ ap (λ x. least_after x least) e))
-      walking)
+  module _ {off : List ℕ} {v : Code.Seen} {at k : ℕ} (w : Walking s S b n off₀ off v at k) where
+    -- a record, read with the code's own number of inputs
+    pub with_inputs : {x : Body Stmt} → record_of (stmt (v.inputs + 4096) (seen_in v)) (drop at s) ≡ x
+        → record_of (stmt (S + 4096) (seen_in v)) (drop at s) ≡ x
+    with_inputs {x} = subst (λ S. record_of (stmt (S + 4096) (seen_in v)) (drop at s) ≡ x) w.inputs
+
+    -- with the code's own length of the record, and what it has learnt
+    pub on : S ≤ input_room → k < n → (x : Stmt) → record_of (stmt (v.inputs + 4096) (seen_in v)) (drop at s) ≡ Good x
+        → (len : ℕ) → len ≡ frame (drop at s) → at + (2 + len) ≤ length s
+        → (v' : Code.Seen) → v' ≡ learnt (record_of (stmt (v.inputs + 4096) (seen_in v)) (drop at s)) v
+        → Walking s S b n off₀ (set off k at) v' (at + (2 + len)) (k + 1)
+    on small h x e len le i v' ve =
+        let small-enough : (p y : ℕ) (t : List Token) → x ≡ Assign p y t → y < length v.assigned
+        = λ p y t q. omega (
+          arith,
+          assigned-below (S + 4096) (seen_in v) (drop at s) p y t
+              (with_inputs (e ∙ ap {B = Body Stmt} Good q)),
+          w.long,
+          small,
+          symbol-room,
+        ) in
+        subst (λ v. Walking s S b n off₀ (set off k at) v (at + (2 + len)) (k + 1)) (sym (ve ∙ ap (λ x. learnt x v) e)) (record {
+          walk =
+              subst (Records.Walking (stmt (S + 4096)) see s n (unseen S b) off₀ (set off k at) (at + (2 + len)) (k + 1))
+              (sym (seen-after v x small-enough))
+              (Records.on (stmt (S + 4096)) see s n (unseen S b) off₀ w.walk h x (with_inputs e) len le i);
+          inputs = learnt-inputs x v ∙ w.inputs;
+          long = learnt-length x v ∙ w.long;
+        })

@@ -1,11 +1,6 @@
 -- The invariant is `Walking`: see there. Each turn reads one record and learns what it assigns.
-use Prim.Native.Nat.{◌-◌}
 use Rattle.trace.proofs.Walk.{Walking}
 use Rattle.trace.proofs.read.read_records.Given as goal
 
 abbrev pub invariant-loop-k : goal.invariant-loop-k
-invariant-loop-k l =
-    Walking l.trace l.inputs l.bounds l.n l.initial.offsets l.offsets l.assigned l.at l.k l.least
-
-abbrev pub decreases-loop-k : goal.decreases-loop-k
-decreases-loop-k l = l.n - l.k
+invariant-loop-k l = Walking l.trace l.inputs l.bounds l.n l.initial.offsets l.offsets l.seen l.at l.k
