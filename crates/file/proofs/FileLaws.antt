@@ -1,7 +1,7 @@
 -- The laws of headers, frames and records: what an accepted file is, record after record from any offset.
 use Prim.Native.Nat.{ℕ, zero, suc, ◌+◌, ◌-◌, ◌≤◌, ◌<◌}
 use native.Mathlib.Omega.{arith}
-use Rattle.std.proofs.Common.{add-one, ap₂, ◌∙◌, subst, length-drop, drop_of_length-le, length-take-le, take_all, take-suc, drop-drop}
+use Rattle.std.proofs.Common.{ap₂, ◌∙◌, subst, length-drop, drop_of_length-le, length-take-le, take_all, drop-drop}
 use Rattle.std.proofs.Common.{drop-cons, get_or-drop, get_or-append-add}
 use Rattle.std.proofs.Math.Decide.{dec_lt}
 use Rattle.std.proofs.Math.Path.{◌≡◌, refl, sym, ap, fun_ext}
@@ -559,13 +559,6 @@ sets_at xs vs k h l =
     ∙ get_or-append vs (drop (0 + length vs) xs) 0 k l
 
 -- ---- words at the front of zeros
-
-pub copy_next : (xs ws : List ℕ) (s : ℕ) → s < length ws → set (sets xs 0 (take s ws)) s (get_or ws s 0) ≡ sets xs 0 (take (s + 1) ws)
-copy_next xs ws s h =
-    ap (λ k. set (sets xs 0 (take s ws)) k (get_or ws s 0))
-    (let e : s ≡ 0 + length (take s ws) = omega (arith, length-take-le s ws (omega arith)) in e)
-    ∙ sym (sets_snoc xs 0 (take s ws) (get_or ws s 0))
-    ∙ sym (ap (sets xs 0) (ap (λ n. take n ws) (add-one s) ∙ take-suc ws s 0 h))
 
 pub same_everywhere : {A : Type 0} (n : ℕ) (a : A) (x : ℕ) → get_or (replicate n a) x a ≡ a
 same_everywhere {A} n a x =

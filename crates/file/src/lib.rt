@@ -113,10 +113,7 @@ pub const INPUT_ROOM: usize = 64;
 pub fn version_of(s: &[u8]) -> u8
     ensures { result ≡ header_version s.now }
 {
-    if s.len() == 0 {
-        return 0;
-    }
-    s[0]
+    s.first().copied().unwrap_or(0)
 }
 
 // The bytes of a version's header, and of a file's.

@@ -35,8 +35,7 @@ fn body_fault(body: &[u8], inputs: usize, n: usize) -> Result<(), Refusal>
             }
             expr_fault(body, 2, inputs)
         }
-        2 => expr_fault(body, 1, inputs),
-        3 => expr_fault(body, 1, inputs),
+        2 | 3 => expr_fault(body, 1, inputs),
         4 => {
             if body.len() < 3 {
                 return Err(Reason::Record.into());

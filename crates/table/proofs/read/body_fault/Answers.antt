@@ -2,8 +2,7 @@ use native.Mathlib.Omega.{arith}
 use mathlib.Core.Path.{sym, ap, ◌∙◌}
 use Rattle.file.specs.Shown.{fault_in}
 use Rattle.std.specs.Prelude.{Err}
-use Rattle.table.proofs.Bodies.{assign-short, assign-rule, assign-expr, goto_short, goto_rule, goto_expr, assume-expr, assert-expr}
-use Rattle.table.proofs.Bodies.{unknown}
+use Rattle.table.proofs.Bodies.{assign-short, assign-rule, assign-expr, goto_short, goto_rule, goto_expr, test-expr, unknown}
 use Rattle.table.proofs.read.body_fault.Goals as goal
 
 pub returns-then-body-lt2 : goal.returns-then-body-lt2
@@ -40,11 +39,8 @@ returns-else-n-two_at c = c.expr_fault-in-4.ensures
 
 pub returns-in-2 : goal.returns-in-2
 returns-in-2 c =
-    c.expr_fault-in-2.ensures ∙ sym (assume-expr c.args.inputs c.args.n c.args.body.now c.requires c.in-2.is)
-
-pub returns-in-3 : goal.returns-in-3
-returns-in-3 c =
-    c.expr_fault-in-3.ensures ∙ sym (assert-expr c.args.inputs c.args.n c.args.body.now c.requires c.in-3.is)
+    c.expr_fault-in-2.ensures
+    ∙ sym (test-expr c.args.inputs c.args.n c.args.body.now c.requires (omega arith) (omega arith))
 
 pub returns-in_default : goal.returns-in_default
 returns-in_default c =
