@@ -34,11 +34,9 @@ pub fn put_inputs(n: usize, out: &mut [u8], at: usize) -> usize
     requires { (n ≤ input_room) × (at ≤ 1000) }
     ensures { Wrote out.old at (declarations (numbers_from 0 n)) out.new result × (result ≤ at + 42 * input_room) }
 {
-    let mut k: usize = 0;
     let mut to = at;
-    while k < n {
+    for k in 0..n {
         to = put_declaration(k, &mut *out, to);
-        k += 1;
     }
     to
 }
