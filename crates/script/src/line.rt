@@ -19,6 +19,7 @@ use super::text::SYMBOL;
 use super::{term, text};
 use expr::number;
 use trace::read;
+use trace::records::Records;
 
 fn put_declaration(s: usize, out: &mut [u8], at: usize) -> usize
     requires { (s < 65536) × (at + 42 < 2 ^ 64) }
@@ -131,49 +132,46 @@ pub fn put_pieces(part: Part, trace: &[u8], n: usize, out: &mut [u8], to: usize)
     ensures { Wrote out.old to (pieces part (take n (listed (read_trace trace.now)))) out.new result
         × (result ≤ to + 130 * 65535) }
 {
-    let mut k: usize = 0;
-    let mut at = file::header_size(trace);
     let mut next = to;
-    while k < n {
+    for at in Records::first(trace, n) {
         next = put_piece(part, trace, at, &mut *out, next);
-        at += 2 + number::two_at(trace, at);
-        k += 1;
     }
     next
 }
 
-// Of the statements so far: how many are tests, how many statements there are up to the last Assert, and how many of those are tests.
-#[derive(Clone, Copy)]
+// Of the statements so far: how many there are, how many are tests, how many statements there are up to the last Assert, and how many of
+// those are tests.
+#[derive(Clone, Copy, Default)]
 pub struct Noted {
+    pub count: usize,
     pub seen: usize,
     pub statements: usize,
     pub tests: usize,
 }
 
-// One statement more, the k-th, by its kind.
-fn note(kind: u8, k: usize, seen: usize, statements: usize, tests: usize) -> Noted
-    requires { seen < 65536 }
-    ensures { (result.seen ≡ seen_after kind seen) × (result.statements ≡ statements_after kind k statements)
-        × (result.tests ≡ tests_after kind seen tests) }
-{
-    if kind == 1 {
-        return Noted {
-            seen,
-            statements,
-            tests,
-        };
-    }
-    if kind == 3 {
-        return Noted {
-            seen: seen + 1,
-            statements: k,
-            tests: seen + 1,
-        };
-    }
-    Noted {
-        seen: seen + 1,
-        statements,
-        tests,
+impl Noted {
+    // One statement more, by its kind.
+    fn and(self, kind: u8) -> Noted
+        requires { (self.count < 65536) × (self.seen < 65536) }
+        ensures { (result.count ≡ self.count + 1) × (result.seen ≡ seen_after kind self.seen)
+            × (result.statements ≡ statements_after kind (self.count + 1) self.statements)
+            × (result.tests ≡ tests_after kind self.seen self.tests) }
+    {
+        let count = self.count + 1;
+        match kind {
+            1 => Noted { count, ..self },
+            3 => Noted {
+                count,
+                seen: self.seen + 1,
+                statements: count,
+                tests: self.seen + 1,
+            },
+            _ => Noted {
+                count,
+                seen: self.seen + 1,
+                ..self
+            },
+        }
     }
 }
 
@@ -183,23 +181,9 @@ pub fn last_assert(trace: &[u8], n: usize) -> Noted
     ensures { (result.statements ≡ length (asserted (listed (read_trace trace.now))))
         × (result.tests ≡ test_count (asserted (listed (read_trace trace.now)))) }
 {
-    let mut k: usize = 0;
-    let mut at = file::header_size(trace);
-    let mut seen: usize = 0;
-    let mut statements: usize = 0;
-    let mut tests: usize = 0;
-    while k < n {
-        let kind = trace[at + 2];
-        k += 1;
-        at += 2 + number::two_at(trace, at);
-        let r = note(kind, k, seen, statements, tests);
-        seen = r.seen;
-        statements = r.statements;
-        tests = r.tests;
+    let mut noted = Noted::default();
+    for at in Records::first(trace, n) {
+        noted = noted.and(trace[at + 2]);
     }
-    Noted {
-        seen,
-        statements,
-        tests,
-    }
+    noted
 }
