@@ -24,8 +24,7 @@ use Rattle.trace.proofs.Standing.{Walking, walking-start, Turn, walking-turn, wa
 use Rattle.write.specs.Splice.{Wrote}
 use Rattle.write.specs.SpliceLaws.{Ahead, ahead_start, ahead_step, ahead_end}
 use Rattle.write.specs.Ascii.{ascii}
-use Rattle.script.specs.declared.line.Part.{Part}
-use Rattle.script.specs.declared.line.Part.TheVariants.{Declarations, Equations, Tests}
+use Rattle.script.specs.Shown.{Part, Declarations, Equations, Tests}
 use Rattle.script.specs.Script.{numbers_from}
 use Rattle.script.specs.ScriptText.{declaration, declarations}
 use Rattle.script.specs.Shown.{opening, piece, piece_in, pieces}

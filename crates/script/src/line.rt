@@ -13,6 +13,7 @@ ghost use Rattle.write.specs.Splice.{Wrote};
 ghost use Rattle.write.specs.Ascii.{ascii};
 ghost use Rattle.script.specs.Script.{numbers_from, expr_term};
 ghost use Rattle.script.specs.ScriptText.{declaration, declarations, equation_line};
+ghost use Rattle.script.specs.Shown.{Part, Declarations, Equations, Tests};
 ghost use Rattle.script.specs.Shown.{opening, test_line, piece, piece_in, pieces, test_count, seen_after, statements_after, tests_after};
 
 use super::text::SYMBOL;
@@ -75,66 +76,97 @@ fn put_tested(kind: u8, e: &[u8], out: &mut [u8], at: usize) -> usize
     write::fit_part(b")\n", out, b)
 }
 
-// The parts of a script to which statements add.
-#[derive(Clone, Copy)]
-pub enum Part {
-    Declarations,
-    Equations,
-    Tests,
+// What a part of a script gets from a statement.
+pub trait Step: Copy {
+    ghost part: { Part };
+
+    // What an Assign adds to it.
+    fn put_assign(self, s: usize, e: &[u8], out: &mut [u8], at: usize) -> usize
+        requires { (s < 65536) × (is_whole (parse Trace (below symbol_room) e.now) ≡ true) × (at + 130 * length e.now + 200 < 2 ^ 64) }
+        ensures { Wrote out.old at (piece part (Assign 0 s (tokens_of (parse Trace (below symbol_room) e.now))))
+            out.new result × (result ≤ at + 130 * length e.now + 42) };
+
+    // And what a test adds.
+    fn put_test(self, kind: u8, e: &[u8], out: &mut [u8], at: usize) -> usize
+        requires { (is_whole (parse Trace (below symbol_room) e.now) ≡ true) × (at + 130 * length e.now + 200 < 2 ^ 64) }
+        ensures { Wrote out.old at
+            (piece part (Test (test_kind kind) 0 (tokens_of (parse Trace (below symbol_room) e.now)))) out.new result
+            × (result ≤ at + 130 * length e.now + 42) };
 }
 
-// What an Assign adds to a part.
-fn put_assign(part: Part, s: usize, e: &[u8], out: &mut [u8], at: usize) -> usize
-    requires { (s < 65536) × (is_whole (parse Trace (below symbol_room) e.now) ≡ true) × (at + 130 * length e.now + 200 < 2 ^ 64) }
-    ensures { Wrote out.old at (piece part (Assign 0 s (tokens_of (parse Trace (below symbol_room) e.now))))
-        out.new result × (result ≤ at + 130 * length e.now + 42) }
-{
-    match part {
-        Part::Declarations => put_declaration(s, out, at),
-        Part::Equations => put_equation(s, e, out, at),
-        Part::Tests => at,
+// The declarations of assigned symbols.
+#[derive(Clone, Copy)]
+pub struct Declare;
+
+impl Step for Declare {
+    ghost part = { Declarations };
+
+    fn put_assign(self, s: usize, e: &[u8], out: &mut [u8], at: usize) -> usize {
+        put_declaration(s, out, at)
+    }
+
+    fn put_test(self, kind: u8, e: &[u8], out: &mut [u8], at: usize) -> usize {
+        at
     }
 }
 
-// And what a test adds.
-fn put_test(part: Part, kind: u8, e: &[u8], out: &mut [u8], at: usize) -> usize
-    requires { (is_whole (parse Trace (below symbol_room) e.now) ≡ true) × (at + 130 * length e.now + 200 < 2 ^ 64) }
-    ensures { Wrote out.old at
-        (piece part (Test (test_kind kind) 0 (tokens_of (parse Trace (below symbol_room) e.now)))) out.new result
-        × (result ≤ at + 130 * length e.now + 42) }
-{
-    match part {
-        Part::Declarations => at,
-        Part::Equations => at,
-        Part::Tests => put_tested(kind, e, out, at),
+// The equations of assigned symbols.
+#[derive(Clone, Copy)]
+pub struct Equate;
+
+impl Step for Equate {
+    ghost part = { Equations };
+
+    fn put_assign(self, s: usize, e: &[u8], out: &mut [u8], at: usize) -> usize {
+        put_equation(s, e, out, at)
+    }
+
+    fn put_test(self, kind: u8, e: &[u8], out: &mut [u8], at: usize) -> usize {
+        at
+    }
+}
+
+// The lines of tests.
+#[derive(Clone, Copy)]
+pub struct Claim;
+
+impl Step for Claim {
+    ghost part = { Tests };
+
+    fn put_assign(self, s: usize, e: &[u8], out: &mut [u8], at: usize) -> usize {
+        at
+    }
+
+    fn put_test(self, kind: u8, e: &[u8], out: &mut [u8], at: usize) -> usize {
+        put_tested(kind, e, out, at)
     }
 }
 
 // What the record at a place adds to a part.
-fn put_piece(part: Part, trace: &[u8], at: usize, out: &mut [u8], to: usize) -> usize
+fn put_piece<S: Step>(step: S, trace: &[u8], at: usize, out: &mut [u8], to: usize) -> usize
     requires { (at < 65536) × (is_good (held (drop at trace.now)) ≡ true)
         × (to + 130 * (2 + number_of 2 (drop at trace.now)) < 2 ^ 64) }
-    ensures { Wrote out.old to (piece_in part (held (drop at trace.now))) out.new result
+    ensures { Wrote out.old to (piece_in S.part (held (drop at trace.now))) out.new result
         × (result ≤ to + 130 * (2 + number_of 2 (drop at trace.now))) }
 {
     let e = read::expr_at(trace, at);
     let kind = trace[at + 2];
     if kind == 1 {
         let symbol = number::two_at(trace, at + 5);
-        return put_assign(part, symbol, e, out, to);
+        return step.put_assign(symbol, e, out, to);
     }
-    put_test(part, kind, e, out, to)
+    step.put_test(kind, e, out, to)
 }
 
 // What the first n statements add to a part.
-pub fn put_pieces(part: Part, trace: &[u8], n: usize, out: &mut [u8], to: usize) -> usize
+pub fn put_pieces<S: Step>(step: S, trace: &[u8], n: usize, out: &mut [u8], to: usize) -> usize
     requires { (is_accepted (read_trace trace.now) ≡ true) × (n ≤ header_count trace.now) × (to ≤ 30000000) }
-    ensures { Wrote out.old to (pieces part (take n (listed (read_trace trace.now)))) out.new result
+    ensures { Wrote out.old to (pieces S.part (take n (listed (read_trace trace.now)))) out.new result
         × (result ≤ to + 130 * 65535) }
 {
     let mut next = to;
     for at in Records::first(trace, n) {
-        next = put_piece(part, trace, at, &mut *out, next);
+        next = put_piece(step, trace, at, &mut *out, next);
     }
     next
 }

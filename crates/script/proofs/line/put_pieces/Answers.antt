@@ -6,22 +6,22 @@ use Rattle.script.proofs.Pieces.{Listing, listing_start, listing_low, listing_go
 use Rattle.script.proofs.line.put_pieces.Goals as goal
 
 pub loop-at-init : goal.loop-at-init
-loop-at-init c =
+loop-at-init g c =
     listing_start _ _ _ _ _ (all-at Byte c.args.trace.now (λ i h. (c.type_inv.trace i).fits)) c.requires.0 c.requires.1
     (c.into_iter-at-iterator.ensures.into_iter_gives ∙ c.first-at-items.ensures)
 
 pub put_piece-next-requires : goal.put_piece-next-requires
-put_piece-next-requires c =
+put_piece-next-requires g c =
     let v = c.loop-at.invariant in
     let e = c.in-Some.ensures.steps in
     (listing_low v _ _ e, listing_good v _ _ e, listing_room v _ _ e c.requires.2)
 
 pub loop-at-preserved : goal.loop-at-preserved
-loop-at-preserved c =
-    subst (λ k. Listing c.args.part c.args.trace.now c.args.n c.args.out.now c.args.to c.put_piece-next.new.out k c.next.new.self
+loop-at-preserved g c =
+    subst (λ k. Listing g.S.Step.part c.args.trace.now c.args.n c.args.out.now c.args.to c.put_piece-next.new.out k c.next.new.self
     c.put_piece-next.result)
     (sym (length_push c.loop-at.yielded c.in-Some.at))
     (listing_on c.loop-at.invariant _ _ c.in-Some.ensures.steps c.put_piece-next.ensures)
 
 pub returns : goal.returns
-returns c = listing_end c.loop-at.invariant c.in-None.ensures.steps.0
+returns g c = listing_end c.loop-at.invariant c.in-None.ensures.steps.0
