@@ -60,10 +60,10 @@ fn put_opening(kind: u8, out: &mut [u8], at: usize) -> usize
     requires { at + 26 < 2 ^ 64 }
     ensures { Wrote out.old at (ascii (opening (test_kind kind))) out.new result × (result ≤ at + 26) }
 {
-    if kind == 3 {
-        return write::fit_part(b"(or (= #x00000000 ", out, at);
+    match kind {
+        3 => write::fit_part(b"(or (= #x00000000 ", out, at),
+        _ => write::fit_part(b"(and (distinct #x00000000 ", out, at),
     }
-    write::fit_part(b"(and (distinct #x00000000 ", out, at)
 }
 
 fn put_tested(kind: u8, e: &[u8], out: &mut [u8], at: usize) -> usize
