@@ -1,4 +1,4 @@
-use Rattle.std.proofs.Common.{◌≡◌, ◌∷◌, length, ap, ◌∙◌, drop_of_length-le, arith}
+use Rattle.std.proofs.Common.{◌≡◌, [], ◌∷◌, length, drop, ap, ◌∙◌, drop_of_length-le, arith}
 use Rattle.std.proofs.lemmas.List.{drop_more}
 use Rattle.write.specs.SpliceLaws.{◌then◌, wrote_as, ahead_step, ahead_end}
 use Rattle.script.proofs.Letters.{pairs, constant_pairs}
@@ -12,8 +12,10 @@ loop-b-preserved c =
 
 pub returns : goal.returns
 returns c =
-    let four : length c.to_be_bytes-b-items.result ≡ 4 = ap length c.to_be_bytes-b-items.ensures in (
+    let bytes = c.to_be_bytes-b-items.result in
+    let four : length bytes ≡ 4 = ap length c.to_be_bytes-b-items.ensures in
+    let none : drop c.loop-b.b-index bytes ≡ [] = drop_of_length-le bytes (omega (arith, four, c.loop-b-test.false)) in (
       wrote_as (ap (λ bs. 35 ∷ 120 ∷ pairs bs) c.to_be_bytes-b-items.ensures ∙ constant_pairs c.args.v)
-          (c.fit_part-to.ensures then ahead_end c.loop-b.invariant.0 (ap pairs (drop_of_length-le c.to_be_bytes-b-items.result (omega (arith, four, c.loop-b-test.false))))),
+          (c.fit_part-to.ensures then ahead_end c.loop-b.invariant.0 (ap pairs none)),
       omega (arith, c.loop-b.invariant.1, c.fit_part-to.ensures.next, c.loop-b.auto.b-index-end),
     )
