@@ -14,7 +14,7 @@ ghost use Rattle.write.specs.Splice.{Wrote};
 ghost use Rattle.script.specs.Shown.{claim_text, definitions_text, script_in};
 ghost use Rattle.script.specs.Answer.{refusal, numbers, ScriptWritten};
 
-use line::Part;
+use line::{Claim, Declare, Equate};
 use trace::read;
 
 // Everything before the last assertion, from the buffer's first byte: all declarations and equations.
@@ -25,8 +25,8 @@ fn put_definitions(trace: &[u8], n: usize, out: &mut [u8]) -> usize
 {
     let a = write::fit_part(b"(set-logic QF_BV)\n", out, 0);
     let b = line::put_inputs(file::inputs_of(trace), out, a);
-    let c = line::put_pieces(Part::Declarations, trace, n, out, b);
-    line::put_pieces(Part::Equations, trace, n, out, c)
+    let c = line::put_pieces(Declare, trace, n, out, b);
+    line::put_pieces(Equate, trace, n, out, c)
 }
 
 // The last assertion: the tests up to the last Assert.
@@ -37,7 +37,7 @@ fn put_claim(trace: &[u8], n: usize, out: &mut [u8], at: usize) -> usize
 {
     let last = line::last_assert(trace, n);
     let a = write::fit_part(b"(assert\n", out, at);
-    let b = line::put_pieces(Part::Tests, trace, last.statements, out, a);
+    let b = line::put_pieces(Claim, trace, last.statements, out, a);
     let c = write::fit_part(b"false", out, b);
     term::put_closings(last.tests, out, c)
 }
