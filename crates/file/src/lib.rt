@@ -1,6 +1,8 @@
 // What tables and traces share: the header and the framing of records (document 01, "Table and trace bytes").
 #![tactic(auto)]
 
+pub mod records;
+
 ghost use Rattle.std.specs.Prelude.{◌≡◌, ◌+◌, ◌*◌, ◌^◌, ◌≤◌, ◌<◌, length, drop};
 ghost use Rattle.std.proofs.lemmas.List.Edits.{sets};
 ghost use Rattle.expr.specs.Number.{number_of};

@@ -9,7 +9,8 @@ ghost use Rattle.table.specs.Table.{instr, is_table};
 ghost use Rattle.table.specs.Shown.{expr_start, expr_part, action_at, ReadRecords, ReadTable};
 
 use expr::{File, number};
-use file::{Kind, Reason, Refusal};
+use file::records::Reader;
+use file::{Kind, Reason, Refusal, records};
 
 // Refuses the expression from a place of a record on.
 fn expr_fault(body: &[u8], from: usize, inputs: usize) -> Result<(), Refusal>
@@ -49,37 +50,36 @@ fn body_fault(body: &[u8], inputs: usize, n: usize) -> Result<(), Refusal>
     }
 }
 
-// Reads the records after the header, and stores their offsets.
-fn read_records(
-    table: &[u8],
+// What a table's records may be: the number of its inputs and that of its instructions say it, whatever stands before a record.
+#[derive(Drop)]
+struct Instrs {
     inputs: usize,
     n: usize,
-    offsets: &mut [u16],
-) -> Result<usize, Refusal>
-    requires { (header_size table.now ≤ length table.now) × (length table.now < 65536) × (n ≤ length offsets.old) }
-    ensures { ReadRecords table.now inputs n offsets.old offsets.new result }
-{
-    let mut at = file::header_size(table);
-    for k in 0..n {
-        let Some(len) = file::frame_at(table, at) else {
-            return Err(Refusal {
-                reason: Reason::Record,
-                offset: at,
-            });
-        };
-        if let Err(refusal) = body_fault(&table[at + 2..at + (2 + len)], inputs, n) {
-            return Err(refusal.after(at));
-        }
-        offsets[k] = at as u16;
-        at += 2 + len;
+}
+
+impl Reader for Instrs {
+    ghost use Rattle.table.specs.Table as Spec;
+    ghost use Rattle.table.specs.TableLaws.{instr-low};
+
+    ghost Thing = { Spec.Instr };
+
+    ghost State = { Unit {0} };
+
+    ghost one = { λ r u. instr r.inputs r.n };
+
+    ghost next = { λ r u a. u };
+
+    ghost state = { λ r. tt };
+
+    ghost ready = { λ r. Unit {0} };
+
+    ghost low = { λ r u bs. instr-low r.inputs r.n bs };
+
+    fn check(&self, body: &[u8]) -> Result<(), Refusal> {
+        body_fault(body, self.inputs, self.n)
     }
-    if at != table.len() {
-        return Err(Refusal {
-            reason: Reason::Record,
-            offset: at,
-        });
-    }
-    Ok(n)
+
+    fn learn(&mut self, _table: &[u8], _at: usize) {}
 }
 
 fn is_table(version: u8) -> bool
@@ -96,12 +96,12 @@ pub fn read_table(table: &[u8], offsets: &mut [u16]) -> Result<usize, Refusal>
 {
     let known = is_table(file::version_of(table));
     file::header_reply(table, known, 1024)?;
-    read_records(
-        table,
-        file::inputs_of(table),
-        file::count_of(table),
-        offsets,
-    )
+    let n = file::count_of(table);
+    let instrs = Instrs {
+        inputs: file::inputs_of(table),
+        n,
+    };
+    records::read_records(table, instrs, n, offsets)
 }
 
 // What an instruction does with the value of its expression: assigns it to a symbol, tests it, or goes to an instruction where it is true.

@@ -1,5 +1,5 @@
 -- What the code's values mean: its answers as functions of the definitions.
-use Rattle.std.specs.Prelude.{ℕ, zero, suc, ◌+◌, ◌≤◌, Bool, true, false, cond, ◌||◌, List, length, drop, get_or, set, replicate, eqb}
+use Rattle.std.specs.Prelude.{ℕ, zero, suc, ◌+◌, ◌≤◌, Bool, true, false, cond, ◌||◌, List, length, drop, get_or, replicate, eqb}
 use Rattle.std.specs.Prelude.{Result, Ok, Err}
 use Rattle.expr.specs.Number.{number_of}
 use Rattle.expr.specs.Token.{Token}
@@ -46,12 +46,6 @@ known_test b k = cond (eqb k 4) b (eqb k 2 || eqb k 3)
 -- a test's kind by its code
 abbrev pub test_kind : (code : ℕ) → Kind
 test_kind k = cond (eqb k 3) Assert (cond (eqb k 4) Bound Assume)
-
--- after the statement that a record holds
-abbrev pub learnt : Body Stmt → Code.Seen → Code.Seen
-learnt (Good (Assign p x e)) v = record v { least = suc x; assigned = set v.assigned x true }
-learnt (Good (Test k p e)) v = v
-learnt (Bad r) v = v
 
 -- the reading of the n records after a trace's header
 abbrev pub ReadRecords : (trace : List ℕ) (S : ℕ) (bounds : Bool) (n : ℕ) (before after : List ℕ) → Result ℕ Refused.Refusal → Type 0

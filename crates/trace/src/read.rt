@@ -3,15 +3,16 @@ ghost use Rattle.std.specs.Prelude.{◌≡◌, true, ◌+◌, ◌≤◌, ◌<◌
 ghost use Rattle.expr.specs.declared.File.TheVariants.{Trace};
 ghost use Rattle.expr.specs.Number.{number_of};
 ghost use Rattle.expr.specs.Expr.{parse};
-ghost use Rattle.file.specs.File.{input_room, header_size, record_of};
-ghost use Rattle.file.specs.Shown.{fault_in, fault_of, expr_fault, is_good};
+ghost use Rattle.file.specs.File.{input_room};
+ghost use Rattle.file.specs.Shown.{fault_in, fault_of, expr_fault};
 ghost use Rattle.trace.specs.Trace.{stmt, is_trace, tells_bound};
 ghost use Rattle.trace.specs.Shown.{known_test, test_kind, expr_start, expr_part, action_at};
-ghost use Rattle.trace.specs.Shown.{seen_in, first_seen, learnt, ReadRecords, ReadTrace};
+ghost use Rattle.trace.specs.Shown.{symbol_room, seen_in, first_seen, ReadTrace};
 
 use super::{OLD_VERSION, SYMBOL_ROOM, VERSION};
 use expr::{File, number};
-use file::{Kind, Reason, Refusal};
+use file::records::Reader;
+use file::{Kind, Reason, Refusal, records};
 
 // What the version and the statements before a statement allow: inputs and assigned symbols may be read, a symbol from `least` on may be
 // assigned, and `bounds` says whether the bound's tests have a kind of their own.
@@ -72,12 +73,28 @@ impl Seen {
         }
         self.check_expr(body, 3)
     }
+}
 
-    // Refuses a record by its bytes after its length.
-    fn check(&self, body: &[u8]) -> Result<(), Refusal>
-        requires { (0 < length body.now) × (self.now.inputs ≤ input_room) }
-        ensures { fault_in result ≡ fault_of (length body.now) (stmt (self.now.inputs + 4096) (seen_in self.now) body.now) }
-    {
+impl Reader for Seen {
+    ghost use Rattle.trace.specs.Trace as Spec;
+    ghost use Rattle.trace.specs.Trace.{see};
+    ghost use Rattle.trace.specs.TraceLaws.{stmt-low};
+
+    ghost Thing = { Spec.Stmt };
+
+    ghost State = { Spec.Seen };
+
+    ghost one = { λ v. stmt (v.inputs + 4096) };
+
+    ghost next = { λ v. see };
+
+    ghost state = { λ v. seen_in v };
+
+    ghost ready = { λ v. (v.inputs ≤ input_room) × (length v.assigned ≡ symbol_room) };
+
+    ghost low = { λ v σ bs. stmt-low (v.inputs + 4096) σ bs };
+
+    fn check(&self, body: &[u8]) -> Result<(), Refusal> {
         match body[0] {
             1 => self.check_assign(body),
             2 => self.check_test(body),
@@ -87,12 +104,8 @@ impl Seen {
         }
     }
 
-    // After the statement at a place: the symbol that it assigns may be read, and the next one is greater.
-    fn learn(&mut self, trace: &[u8], at: usize)
-        requires { (at < 65536) × (self.old.inputs ≤ input_room)
-            × (is_good (record_of (stmt (self.old.inputs + 4096) (seen_in self.old)) (drop at trace.now)) ≡ true) }
-        ensures { self.new ≡ learnt (record_of (stmt (self.old.inputs + 4096) (seen_in self.old)) (drop at trace.now)) self.old }
-    {
+    // The symbol that the statement at a place assigns may be read after it, and the next one is greater.
+    fn learn(&mut self, trace: &[u8], at: usize) {
         match stmt_at(trace, at).action {
             Action::Assign(symbol) => {
                 self.assigned[symbol] = true;
@@ -101,43 +114,6 @@ impl Seen {
             Action::Test(_) => {}
         }
     }
-}
-
-// Reads the records after the header, and stores their offsets.
-fn read_records(
-    trace: &[u8],
-    inputs: usize,
-    bounds: bool,
-    n: usize,
-    offsets: &mut [u16],
-) -> Result<usize, Refusal>
-    requires { (header_size trace.now ≤ length trace.now) × (length trace.now < 65536) × (inputs ≤ input_room)
-        × (n ≤ length offsets.old) }
-    ensures { ReadRecords trace.now inputs bounds n offsets.old offsets.new result }
-{
-    let mut seen = Seen::at_first(inputs, bounds);
-    let mut at = file::header_size(trace);
-    for k in 0..n {
-        let Some(len) = file::frame_at(trace, at) else {
-            return Err(Refusal {
-                reason: Reason::Record,
-                offset: at,
-            });
-        };
-        if let Err(refusal) = seen.check(&trace[at + 2..at + (2 + len)]) {
-            return Err(refusal.after(at));
-        }
-        offsets[k] = at as u16;
-        seen.learn(trace, at);
-        at += 2 + len;
-    }
-    if at != trace.len() {
-        return Err(Refusal {
-            reason: Reason::Record,
-            offset: at,
-        });
-    }
-    Ok(n)
 }
 
 fn is_trace(version: u8) -> bool
@@ -162,13 +138,8 @@ pub fn read_trace(trace: &[u8], offsets: &mut [u16]) -> Result<usize, Refusal>
     let version = file::version_of(trace);
     file::header_reply(trace, is_trace(version), 4096)?;
     let bounds = tells_bound(version);
-    read_records(
-        trace,
-        file::inputs_of(trace),
-        bounds,
-        file::count_of(trace),
-        offsets,
-    )
+    let seen = Seen::at_first(file::inputs_of(trace), bounds);
+    records::read_records(trace, seen, file::count_of(trace), offsets)
 }
 
 // What a statement does with the value of its expression: assigns it to a symbol, or tests it.

@@ -44,14 +44,14 @@ module _ (c : In_ok-header_reply) where
 pub inputs_of-requires : goal.inputs_of-requires
 inputs_of-requires c = (head (goal.at.inputs_of-requires c).In_ok-header_reply).long
 
-pub count_of-requires : goal.count_of-requires
-count_of-requires c = (head (goal.at.count_of-requires c).In_ok-header_reply).long
+pub count_of-n-requires : goal.count_of-n-requires
+count_of-n-requires c = (head (goal.at.count_of-n-requires c).In_ok-header_reply).long
 
 pub read_records-requires : goal.read_records-requires
 read_records-requires c =
     let place = (goal.at.read_records-requires c).In_ok-header_reply in
-    ((head place).long, small place, omega (arith, (head place).count, c.count_of.ensures, c.requires))
+    ((head place).long, small place, omega (arith, (head place).count, c.count_of-n.ensures, c.requires), tt)
 
 pub returns : goal.returns
 returns c =
-    records-read _ (good (goal.at.returns c).In_ok-header_reply) c.inputs_of.ensures c.count_of.ensures c.read_records.ensures
+    records-read _ (good (goal.at.returns c).In_ok-header_reply) c.inputs_of.ensures c.count_of-n.ensures c.read_records.ensures

@@ -14,6 +14,7 @@ use Rattle.file.proofs.FileLaws.{inputs-room, Header, header_is, header-known}
 use Rattle.file.proofs.ReadingLaws.{short}
 use Rattle.trace.specs.Trace.{is_trace, tells_bound}
 use Rattle.trace.specs.Shown.{ReadTrace}
+use Rattle.trace.proofs.Learning.{first-ready, first-reads}
 use Rattle.trace.proofs.Answers.{header_read, records-read}
 use Rattle.trace.proofs.read.read_trace.Goals as goal
 use Rattle.trace.proofs.read.read_trace.Goals.{In_ok-header_reply}
@@ -52,11 +53,13 @@ read_records-requires c =
     let place = (goal.at.read_records-requires c).In_ok-header_reply in (
       (head place).long,
       small place,
-      omega (arith, (head place).inputs, inputs-room (header_version (s place)), c.inputs_of.ensures),
       omega (arith, (head place).count, c.count_of.ensures, c.requires),
+      first-ready c.at_first-seen.ensures
+          (omega (arith, (head place).inputs, inputs-room (header_version (s place)), c.inputs_of.ensures)),
     )
 
 pub returns : goal.returns
 returns c =
     records-read _ (good (goal.at.returns c).In_ok-header_reply) c.inputs_of.ensures
-    (c.tells_bound-bounds.ensures ∙ ap tells_bound c.version_of-version.ensures) c.count_of.ensures c.read_records.ensures
+    (c.tells_bound-bounds.ensures ∙ ap tells_bound c.version_of-version.ensures) c.count_of.ensures
+    (first-reads c.at_first-seen.ensures c.read_records.ensures)

@@ -7,8 +7,8 @@ use Rattle.std.specs.Prelude.{Err}
 use Rattle.file.specs.Shown.{fault_in}
 use Rattle.trace.specs.Shown.{seen_in, known_test}
 use Rattle.trace.proofs.Bodies.{four_untold, no_test, unknown}
-use Rattle.trace.proofs.read.Seen.check.Goals as goal
-use Rattle.trace.proofs.read.Seen.check.Goals.{in_default-via-in-4+else-self, in_default-via-in_default-1}
+use Rattle.trace.proofs.read.SeenReader.check.Goals as goal
+use Rattle.trace.proofs.read.SeenReader.check.Goals.{in_default-via-in-4+else-self, in_default-via-in_default-1}
 
 pub returns-in_default : goal.returns-in_default
 returns-in_default c =

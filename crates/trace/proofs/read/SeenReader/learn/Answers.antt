@@ -1,12 +1,14 @@
 use native.Mathlib.Omega.{arith}
 use Prim.Native.Nat.{◌+◌, ◌<◌}
-use mathlib.Core.Path.{sym, ◌∙◌}
+use mathlib.Core.Bool.{true}
+use lib.ListN.{length-set}
+use mathlib.Core.Path.{refl, sym, ◌∙◌}
 use Rattle.trace.specs.Shown.{symbol_room, seen_in}
 use Rattle.trace.specs.TraceLaws.{symbol-room}
 use Rattle.trace.proofs.Held.{Held, held_at, acts-assign}
 use Rattle.trace.proofs.Learning.{learns_symbol, learns_nothing}
-use Rattle.trace.proofs.read.Seen.learn.Goals as goal
-use Rattle.trace.proofs.read.Seen.learn.Goals.{Start, In-Assign}
+use Rattle.trace.proofs.read.SeenReader.learn.Goals as goal
+use Rattle.trace.proofs.read.SeenReader.learn.Goals.{Start, In-Assign}
 
 held : (c : Start) → Held (c.args.self.now.inputs + 4096) (seen_in c.args.self.now) c.args.trace.now c.args.at
 held c = held_at _ _ _ _ c.requires.2
@@ -33,10 +35,20 @@ overflow_add-self c = omega (arith, below (goal.at.overflow_add-self c).In-Assig
 
 pub returns-in-Assign : goal.returns-in-Assign
 returns-in-Assign c =
-    learns_symbol (held (goal.at.returns-in-Assign c).Start) c.args.self.now c.in-Assign.symbol
-    (sym c.stmt_at.ensures.1 ∙ c.in-Assign.is)
+    let v = c.args.self.now in
+    let ready = c.requires.1 in (
+      (ready.0, length-set v.assigned c.in-Assign.symbol true ∙ ready.1),
+      refl,
+      refl,
+      λ x e. learns_symbol v (held (goal.at.returns-in-Assign c).Start) x e ready.0 ready.1 c.in-Assign.symbol
+          (sym c.stmt_at.ensures.1 ∙ c.in-Assign.is),
+    )
 
 pub returns-in-Test : goal.returns-in-Test
-returns-in-Test c =
-    learns_nothing (held (goal.at.returns-in-Test c).Start) c.args.self.now c.in-Test.field-0
-    (sym c.stmt_at.ensures.1 ∙ c.in-Test.is)
+returns-in-Test c = (
+  c.requires.1,
+  refl,
+  refl,
+  λ x e. learns_nothing c.args.self.now (held (goal.at.returns-in-Test c).Start) x e c.in-Test.field-0
+      (sym c.stmt_at.ensures.1 ∙ c.in-Test.is),
+)
