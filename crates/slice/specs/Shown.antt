@@ -1,5 +1,6 @@
 -- What the code's values mean: its answers as functions of the definitions.
 use Rattle.std.specs.Prelude.{ℕ, ◌+◌, ◌*◌, ◌/◌, ◌%◌, ◌≡◌, Bool, true, false, cond, ◌||◌, List, [], ◌∷◌, length, get_or, set, eqb}
+use Rattle.std.specs.Prelude.{Result, Ok, Err}
 use Rattle.std.proofs.Math.Option.{Option, none, some}
 use Rattle.expr.specs.Word.{bit}
 use Rattle.expr.specs.Token.{Token}
@@ -9,6 +10,10 @@ use Rattle.trace.specs.Trace.{Stmt, Assign, Test, reads_trace, stmt_bytes}
 use Rattle.trace.specs.Shown.{expr_of}
 use Rattle.trace.specs.Asserts.{is_assert}
 use Rattle.slice.specs.Slice.{slice}
+use Rattle.file.specs.Shown.{reply_of}
+use Rattle.file.specs.declared.Refusal.{Refusal}
+use Rattle.slice.specs.Answer.{refusal, numbers}
+use Rattle.slice.specs.declared.Answer.{Answer}
 use Rattle.slice.specs.declared.back.Kept.{Kept}
 
 -- ---- a set of symbols
@@ -73,3 +78,10 @@ pub record WalkedBack (ts : List Stmt) (flags : List Bool) (needed : List ℕ) (
 abbrev pub kept_bytes : (keep : Bool) → Body Stmt → List ℕ
 kept_bytes keep (Good t) = cond keep (record_bytes stmt_bytes t) []
 kept_bytes keep (Bad r) = []
+
+-- ---- the answer
+
+-- that of a slice that is written, or of a refusal
+abbrev pub answer_in : Result Answer Refusal → Answer
+answer_in (Ok a) = a
+answer_in (Err f) = numbers (refusal (reply_of f.reason) f.offset)
