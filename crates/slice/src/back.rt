@@ -28,10 +28,7 @@ fn keeps(trace: &[u8], at: usize, asserts: bool, needed: &[u64]) -> bool
         let symbol = number::two_at(trace, at + 5);
         return sets::ask(symbol, needed);
     }
-    if kind == 3 {
-        return true;
-    }
-    asserts
+    kind == 3 || asserts
 }
 
 // The symbols that the statement at a place reads become needed.
@@ -41,16 +38,6 @@ fn mark_record(trace: &[u8], at: usize, needed: &mut [u64])
         ≡ (reads_in x (held (drop at trace.now)) || in_set needed.old x) }
 {
     reads::mark_reads(read::expr_at(trace, at), needed);
-}
-
-// Whether an Assert is among a statement of this kind and those behind it.
-fn has_assert(kind: u8, asserts: bool) -> bool
-    ensures { result ≡ (eqb kind 3 || asserts) }
-{
-    if kind == 3 {
-        return true;
-    }
-    asserts
 }
 
 // The statement k, whose record stands at a place.
@@ -72,7 +59,7 @@ fn step_back(
         mark_record(trace, at, needed);
         kept[k] = true;
         return Kept {
-            asserts: has_assert(trace[at + 2], behind.asserts),
+            asserts: trace[at + 2] == 3 || behind.asserts,
             count: behind.count + 1,
             size: behind.size + (2 + number::two_at(trace, at)),
         };

@@ -2,6 +2,7 @@ use Rattle.trace.specs.Shown.{symbol_room, loose}
 use Rattle.trace.proofs.Held.{Held, held_at}
 use native.Mathlib.Omega.{arith}
 use mathlib.Core.Path.{◌∙◌}
+use borrow.Author.Tests.{eq-eqb}
 use Rattle.slice.specs.Shown.{in_set}
 use Rattle.slice.proofs.Records.{keeps-assign, keeps-assert, keeps-assume}
 use Rattle.slice.proofs.back.keeps.Goals as goal
@@ -34,10 +35,10 @@ returns-then-kind-eq1 c =
 
 pub returns-then-kind-eq3 : goal.returns-then-kind-eq3
 returns-then-kind-eq3 c =
-    keeps-assert (here (goal.at.returns-then-kind-eq3 c).Start) c.args.asserts
-    (in_set c.args.needed.now) c.if-kind-eq3.true
+    eq-eqb _ 3 c.if-kind-eq3.true
+    ∙ keeps-assert (here (goal.at.returns-then-kind-eq3 c).Start) c.args.asserts (in_set c.args.needed.now) c.if-kind-eq3.true
 
-pub returns : goal.returns
-returns c =
-    keeps-assume (here (goal.at.returns c).Start) c.args.asserts
+pub returns-else-kind-eq3 : goal.returns-else-kind-eq3
+returns-else-kind-eq3 c =
+    keeps-assume (here (goal.at.returns-else-kind-eq3 c).Start) c.args.asserts
     (in_set c.args.needed.now) c.if-kind-eq1.false c.if-kind-eq3.false

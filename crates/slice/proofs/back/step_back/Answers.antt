@@ -1,3 +1,4 @@
+use Rattle.std.proofs.Common.{rules, tests}
 use Rattle.trace.specs.Shown.{symbol_room, loose}
 use Rattle.trace.proofs.Held.{Held, held_at}
 use native.Mathlib.Omega.{arith}
@@ -20,4 +21,4 @@ pub returns-then-keeps : goal.returns-then-keeps
 returns-then-keeps c =
     stepped_kept (here (goal.at.returns-then-keeps c).Start) c.args.k c.args.behind c.args.kept.now c.args.needed.now _ c.keeps.ensures
     c.if-keeps.true
-    c.mark_record.new.needed c.mark_record.ensures _ c.has_assert.ensures _ c.two_at.ensures.0
+    c.mark_record.new.needed c.mark_record.ensures _ (search (tests, rules)) _ c.two_at.ensures.0

@@ -9,6 +9,6 @@ pub with_bit-mask-requires : goal.with_bit-mask-requires
 with_bit-mask-requires c = (
   omega (arith, c.loop-s-test.true, c.requires.0),
   subst (λ m. m < 2 ^ c.loop-s.s)
-      (sym c.loop-s.invariant.1) (mask_lt c.loop-s.s
+      (sym c.loop-s.invariant) (mask_lt c.loop-s.s
       (in_set c.args.needed.now)),
 )
