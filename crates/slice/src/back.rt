@@ -68,27 +68,18 @@ fn step_back(
 }
 
 // Sets the entries of the kept statements, and marks the symbols that they read.
-pub fn walk_back(
-    trace: &[u8],
-    offsets: &[u16],
-    n: usize,
-    kept: &mut [bool],
-    needed: &mut [u64],
-) -> Kept
-    requires { Ready trace.now offsets.now n × (n ≤ length kept.old) × (room_in needed.old ≡ symbol_room)
-        × ((x : ℕ) → in_set needed.old x ≡ false) × ((x : ℕ) → get_or kept.old x false ≡ false) }
+pub fn walk_back(trace: &[u8], offsets: &[u16], kept: &mut [bool], needed: &mut [u64]) -> Kept
+    requires { Ready trace.now offsets.now (length offsets.now) × (length offsets.now ≤ length kept.old)
+        × (room_in needed.old ≡ symbol_room) × ((x : ℕ) → in_set needed.old x ≡ false) × ((x : ℕ) → get_or kept.old x false ≡ false) }
     ensures { WalkedBack (listed (read_trace trace.now)) kept.new needed.new result }
 {
-    let mut k = n;
     let mut behind = Kept {
         asserts: false,
         count: 0,
         size: 0,
     };
-    while 0 < k {
-        k -= 1;
-        let at = offsets[k] as usize;
-        behind = step_back(trace, at, k, behind, &mut *kept, &mut *needed);
+    for (k, &at) in offsets.iter().enumerate().rev() {
+        behind = step_back(trace, at as usize, k, behind, &mut *kept, &mut *needed);
     }
     behind
 }

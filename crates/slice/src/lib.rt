@@ -45,16 +45,16 @@ pub fn slice_trace(trace: &[u8], out: &mut [u8]) -> Answer
     if reply != 0 {
         return refused(reply as u32, t.offset as u32);
     }
-    let n = t.count;
+    let stored = &offsets[..t.count];
     let mut flags: [bool; 4096] = [false; 4096];
     let mut needed = sets::clear();
-    let k = back::walk_back(trace, &offsets, n, &mut flags, &mut needed);
+    let k = back::walk_back(trace, stored, &mut flags, &mut needed);
     let total = file::header_size(trace) + k.size;
     if out.len() < total {
         return refused(10, 0);
     }
     let to = write::put_header_of(trace, total, k.count, out);
-    let _ = copy::copy_kept(trace, &offsets, n, &flags, out, to);
+    let _ = copy::copy_kept(trace, stored, &flags, out, to);
     let mask = mask::mask_of(&needed, file::inputs_of(trace));
     Answer {
         reply: 0,

@@ -1,7 +1,7 @@
 -- The answer by the way that the code takes to it: each `return` cites the law of that way (`proofs/Answers.antt`).
 use Prim.Native.Nat.{ℕ, ◌≤◌, ◌<◌}
 use native.Mathlib.Omega.{arith}
-use mathlib.Core.Path.{◌≡◌}
+use mathlib.Core.Path.{◌≡◌, sym}
 use mathlib.Core.Bool.{false}
 use mathlib.Core.List.{List}
 use lib.ListN.{length-replicate}
@@ -17,6 +17,7 @@ use Rattle.trace.specs.Shown.{Ready}
 use Rattle.trace.proofs.Answers.{offset-small, trace_accepted, right-header, is-ready}
 use Rattle.slice.proofs.Answers.{trace_refuses, size_small, no_room, records-room, slice_written}
 use Rattle.slice.proofs.Marks.{same-room}
+use Rattle.slice.proofs.Statements.{cut-long, ready_cut}
 use Rattle.slice.proofs.slice_trace.Goals as goal
 use Rattle.slice.proofs.slice_trace.Goals.{After-header_size, After-shared_slice_known-1, After-walk_back-k, Else-out-total, Else-reply-ne0}
 
@@ -61,11 +62,17 @@ returns-then-reply-ne0 c =
     trace_refuses _ _ _ _ (reply_refuses c.read_trace-t.ensures c.if-reply-ne0.true) _
     c.refused.ensures
 
+pub slice_bounds-offsets-end : goal.slice_bounds-offsets-end
+slice_bounds-offsets-end c = (ready (goal.at.slice_bounds-offsets-end c).Else-reply-ne0).room
+
+pub slice_bounds-stored-end : goal.slice_bounds-stored-end
+slice_bounds-stored-end c = sym (cut-long (ready (goal.at.slice_bounds-stored-end c).Else-reply-ne0))
+
 pub walk_back-k-requires : goal.walk_back-k-requires
 walk_back-k-requires c =
     let place = (goal.at.walk_back-k-requires c).Else-reply-ne0 in (
-      ready place,
-      few place,
+      ready_cut (ready place),
+      omega (arith, cut-long (ready place), few place),
       c.clear-needed.ensures.0,
       c.clear-needed.ensures.1,
       same_everywhere 4096 false,
@@ -110,8 +117,8 @@ pub copy_kept-requires : goal.copy_kept-requires
 copy_kept-requires c =
     let place = (goal.at.copy_kept-requires c).Else-out-total in
     let put = c.put_header_of-to.ensures in (
-      ready (a place),
-      omega (arith, few (a place), (walked place).walk_back-k.auto.kept),
+      ready_cut (ready (a place)),
+      omega (arith, cut-long (ready (a place)), few (a place), (walked place).walk_back-k.auto.kept),
       records-room (s (a place)) (accepted (a place)) _ _ _ (walked place).walk_back-k.ensures (front place).header_size.ensures
           (out (a place))
           c.if-out-total.false put.0 put.1,
