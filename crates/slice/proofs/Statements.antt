@@ -3,29 +3,14 @@ use Prim.Native.Nat.{ℕ, ◌<◌}
 use mathlib.Core.Path.{◌≡◌, sym, ap, ◌∙◌}
 use mathlib.Core.Bool.{true}
 use mathlib.Core.List.{List, ◌∷◌}
-use native.Mathlib.Omega.{arith}
-use lib.ListN.{length, take, drop, get_or}
-use Rattle.std.proofs.lemmas.List.{get_or-take, length-take-le}
+use lib.ListN.{drop, get_or, length}
 use Rattle.file.specs.File.{Good}
-use Rattle.file.specs.Shown.{is_good, listed, offsets_in}
+use Rattle.file.specs.Shown.{is_good, listed}
 use Rattle.trace.specs.Trace.{Stmt, read_trace}
 use Rattle.trace.specs.Shown.{held, Ready}
 use Rattle.trace.proofs.Judging.{Loaded, loaded, Here, here}
 
 module _ {s off : List ℕ} {n : ℕ} (r : Ready s off n) where
-  -- the first n offsets alone
-  pub cut-long : length (take n off) ≡ n
-  cut-long = length-take-le n off r.room
-
-  pub ready_cut : Ready s (take n off) (length (take n off))
-  ready_cut = record {
-    accepted = r.accepted;
-    count = cut-long ∙ r.count;
-    room = omega arith;
-    stored = λ i h. get_or-take n off i 0 (omega (arith, cut-long)) ∙ r.stored i (omega (arith, cut-long))
-        ∙ ap (λ n. get_or (offsets_in n s) i 0) (sym cut-long);
-  }
-
   pub is-loaded : Loaded s (listed (read_trace s))
   is-loaded = loaded s r.accepted
 

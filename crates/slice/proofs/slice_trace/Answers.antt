@@ -17,7 +17,7 @@ use Rattle.trace.specs.Shown.{Ready}
 use Rattle.trace.proofs.Answers.{offset-small, trace_accepted, right-header, is-ready}
 use Rattle.slice.proofs.Answers.{trace_refuses, size_small, no_room, records-room, slice_written}
 use Rattle.slice.proofs.Marks.{same-room}
-use Rattle.slice.proofs.Statements.{cut-long, ready_cut}
+use Rattle.file.proofs.CutLaws.{cut-long, ready_cut}
 use Rattle.slice.proofs.slice_trace.Goals as goal
 use Rattle.slice.proofs.slice_trace.Goals.{After-header_size, After-shared_slice_known-1, After-walk_back-k, Else-out-total, Else-reply-ne0}
 
