@@ -20,7 +20,7 @@ use Rattle.trace.specs.Asserts.{is_assert, has_assert}
 use Rattle.slice.specs.Slice.{keep, slice}
 use Rattle.slice.proofs.SliceLaws.{slice_shorter, slice_smaller}
 use Rattle.slice.specs.Shown as Shown
-use Rattle.slice.specs.Shown.{in_set, reads_in, keep_stmt, keep_in, asserts_in, Stepped, WalkedBack}
+use Rattle.slice.specs.Shown.{reads_in, keep_stmt, keep_in, asserts_in, Stepped, WalkedBack}
 
 -- ---- the bytes of a trace
 
@@ -68,17 +68,16 @@ module _ {all rest : List ℕ} (l : Left all rest) (rest' : List ℕ) (x : ℕ) 
 
 -- ---- the loop
 
-pub record Walking (ts : List Stmt) (kept₀ : List Bool) (needed₀ : List ℕ) (kept : List Bool) (needed : List ℕ) (k : ℕ)
+pub record Walking (ts : List Stmt) (kept₀ kept : List Bool) (needed : ℕ → Bool) (k : ℕ)
     (behind : Kept) : Type 0 where
   pub inside : k ≤ length ts
   pub kept-long : length kept ≡ length kept₀
-  pub needed_long : length needed ≡ length needed₀
   pub room : length ts ≤ length kept
   pub clear : (i : ℕ) → i < k → get_or kept i false ≡ false
   pub asserts : behind.asserts ≡ has_assert (drop k ts)
   pub count : behind.count ≡ length (slice (drop k ts))
   pub size : behind.size ≡ length (records_bytes stmt_bytes (slice (drop k ts)))
-  pub reads : (x : ℕ) → in_set needed x ≡ reads_trace x (slice (drop k ts))
+  pub reads : (x : ℕ) → needed x ≡ reads_trace x (slice (drop k ts))
   pub those : Shown.kept (drop k kept) (drop k ts) ≡ slice (drop k ts)
 
 abbrev none : Kept
@@ -88,16 +87,15 @@ pub kept_none : (flags : List Bool) → Shown.kept flags [] ≡ []
 kept_none [] = refl
 kept_none (b ∷ flags) = refl
 
-module _ (ts : List Stmt) (kept : List Bool) (needed : List ℕ) (n : ℕ) (q : n ≡ length ts) where
-  pub walking_start : n ≤ length kept → ((x : ℕ) → in_set needed x ≡ false) → ((x : ℕ) → get_or kept x false ≡ false)
-      → Walking ts kept needed kept needed n none
+module _ (ts : List Stmt) (kept : List Bool) (needed : ℕ → Bool) (n : ℕ) (q : n ≡ length ts) where
+  pub walking_start : n ≤ length kept → ((x : ℕ) → needed x ≡ false) → ((x : ℕ) → get_or kept x false ≡ false)
+      → Walking ts kept kept needed n none
   unfolding slice
   walking_start l m f =
       let e : drop n ts ≡ [] = drop_of_length-le ts {i = n} (omega arith) in
       record {
         inside = omega arith;
         kept-long = refl;
-        needed_long = refl;
         room = omega arith;
         clear = λ i h. f i;
         asserts = sym (ap has_assert e);
@@ -120,8 +118,8 @@ reads_first : (x : ℕ) (t : Stmt) (ts : List Stmt) → reads_trace x (t ∷ ts)
 reads_first x (Assign p y e) ts = refl
 reads_first x (Test k p e) ts = refl
 
-module _ {ts : List Stmt} {kept₀ : List Bool} {needed₀ : List ℕ} {kept : List Bool} {needed : List ℕ} {k : ℕ} {behind : Kept}
-    (w : Walking ts kept₀ needed₀ kept needed k behind) where
+module _ {ts : List Stmt} {kept₀ kept : List Bool} {needed : ℕ → Bool} {k : ℕ} {behind : Kept}
+    (w : Walking ts kept₀ kept needed k behind) where
   pub few-behind : length ts ≤ 4096 → behind.count ≤ 4096
   few-behind l = omega (arith, w.count, slice_shorter (drop k ts), length-drop k ts)
 
@@ -130,9 +128,9 @@ module _ {ts : List Stmt} {kept₀ : List Bool} {needed₀ : List ℕ} {kept : L
 
   module _ {j : ℕ} (next : suc j ≡ k) {t : Stmt} {xs : List Stmt} (here : drop j ts ≡ t ∷ xs) {size : ℕ}
       (sized : length (record_bytes stmt_bytes t) ≡ size)
-      {b : Body Stmt} (g : b ≡ Good t) {i : ℕ} (i-is : i ≡ j) {kept' : List Bool} {needed' : List ℕ} {r : Kept}
+      {b : Body Stmt} (g : b ≡ Good t) {i : ℕ} (i-is : i ≡ j) {kept' : List Bool} {needed' : ℕ → Bool} {r : Kept}
       (went : Stepped b size i behind kept needed kept' needed' r)
-      (kept-kept : length kept' ≡ length kept) (needed-kept : length needed' ≡ length needed) where
+      (kept-kept : length kept' ≡ length kept) where
     st : Stepped (Good t) size j behind kept needed kept' needed' r
     st =
         subst (λ i. Stepped (Good t) size i behind kept needed kept' needed' r) i-is
@@ -150,14 +148,13 @@ module _ {ts : List Stmt} {kept₀ : List Bool} {needed₀ : List ℕ} {kept : L
 
     on_as : (us : List Stmt) → slice (t ∷ xs) ≡ us → ((i : ℕ) → i < j → get_or kept' i false ≡ false) → r.count ≡ length us
         → r.size ≡ length (records_bytes stmt_bytes us)
-        → ((x : ℕ) → in_set needed' x ≡ reads_trace x us) → Shown.kept (drop j kept') (t ∷ xs) ≡ us
-        → Walking ts kept₀ needed₀ kept' needed' j r
+        → ((x : ℕ) → needed' x ≡ reads_trace x us) → Shown.kept (drop j kept') (t ∷ xs) ≡ us
+        → Walking ts kept₀ kept' needed' j r
     on_as us e f c z m q =
         let e : slice (drop j ts) ≡ us = ap slice here ∙ e in
         record {
           inside = omega (arith, w.inside);
           kept-long = kept-kept ∙ w.kept-long;
-          needed_long = needed-kept ∙ w.needed_long;
           room = omega (arith, w.room);
           clear = f;
           asserts =
@@ -175,20 +172,20 @@ module _ {ts : List Stmt} {kept₀ : List Bool} {needed₀ : List ℕ} {kept : L
     size_is : behind.size ≡ length (records_bytes stmt_bytes (slice xs))
     size_is = w.size ∙ ap (λ us. length (records_bytes stmt_bytes (slice us))) (sym behind-is)
 
-    reads-is : (x : ℕ) → in_set needed x ≡ reads_trace x (slice xs)
+    reads-is : (x : ℕ) → needed x ≡ reads_trace x (slice xs)
     reads-is x = w.reads x ∙ ap (λ us. reads_trace x (slice us)) (sym behind-is)
 
-    kept-is : keep_in behind.asserts (in_set needed) (Good t) ≡ keep t xs (slice xs)
-    kept-is = keep_same t xs (slice xs) behind.asserts (in_set needed) (w.asserts ∙ ap has_assert (sym behind-is)) reads-is
+    kept-is : keep_in behind.asserts needed (Good t) ≡ keep t xs (slice xs)
+    kept-is = keep_same t xs (slice xs) behind.asserts needed (w.asserts ∙ ap has_assert (sym behind-is)) reads-is
 
-    sliced : (b : Bool) → keep_in behind.asserts (in_set needed) (Good t) ≡ b → slice (t ∷ xs) ≡ cond b (t ∷ slice xs) (slice xs)
+    sliced : (b : Bool) → keep_in behind.asserts needed (Good t) ≡ b → slice (t ∷ xs) ≡ cond b (t ∷ slice xs) (slice xs)
     unfolding slice
     sliced b e = ap (λ b. cond b (t ∷ slice xs) (slice xs)) (sym kept-is ∙ e)
 
-    pub walk-on : Walking ts kept₀ needed₀ kept' needed' j r
-    walk-on = go (keep_in behind.asserts (in_set needed) (Good t)) refl
+    pub walk-on : Walking ts kept₀ kept' needed' j r
+    walk-on = go (keep_in behind.asserts needed (Good t)) refl
       where
-        go : (b : Bool) → keep_in behind.asserts (in_set needed) (Good t) ≡ b → Walking ts kept₀ needed₀ kept' needed' j r
+        go : (b : Bool) → keep_in behind.asserts needed (Good t) ≡ b → Walking ts kept₀ kept' needed' j r
         go true e =
             let (f, c, z, m) = st.keeps e in
             on_as (t ∷ slice xs) (sliced true e)
@@ -205,11 +202,11 @@ module _ {ts : List Stmt} {kept₀ : List Bool} {needed₀ : List ℕ} {kept : L
             on_as (slice xs) (sliced false e) (λ i l. ap (λ fs. get_or fs i false) f ∙ w.clear i (omega arith))
             (omega (arith, c, count-is))
             (z ∙ size_is)
-            (λ x. ap (λ fs. in_set fs x) m ∙ reads-is x)
+            (λ x. ap (λ f. f x) m ∙ reads-is x)
             (flag kept' kept-kept false (ap (λ fs. get_or fs j false) f ∙ w.clear j (omega arith)) (ap (drop k) f))
 
-pub walked : {ts : List Stmt} {kept₀ : List Bool} {needed₀ : List ℕ} {kept : List Bool} {needed : List ℕ} {k : ℕ} {behind : Kept}
-    → Walking ts kept₀ needed₀ kept needed k behind → k ≤ 0 → WalkedBack ts kept needed behind
-walked {ts} {kept₀} {needed₀} {kept} {needed} {k} {behind} w h = let v = subst (λ k. Walking ts kept₀ needed₀ kept needed k behind)
+pub walked : {ts : List Stmt} {kept₀ kept : List Bool} {needed : ℕ → Bool} {k : ℕ} {behind : Kept}
+    → Walking ts kept₀ kept needed k behind → k ≤ 0 → WalkedBack ts kept needed behind
+walked {ts} {kept₀} {kept} {needed} {k} {behind} w h = let v = subst (λ k. Walking ts kept₀ kept needed k behind)
     (let e : k ≡ 0 = omega arith in e) w in
     record { those = v.those; count = v.count; size = v.size; reads = v.reads }

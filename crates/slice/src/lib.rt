@@ -10,6 +10,7 @@ mod sets;
 ghost use Rattle.std.specs.Prelude.{◌≡◌};
 ghost use Rattle.slice.specs.Answer.{refusal, numbers, SliceWritten};
 
+use sets::Symbols;
 use trace::read;
 
 // Document 01's answer to slicing: a reply and its offset, the length written, the mask of the inputs that the slice reads, and the
@@ -47,7 +48,7 @@ pub fn slice_trace(trace: &[u8], out: &mut [u8]) -> Answer
     }
     let stored = &offsets[..t.count];
     let mut flags: [bool; 4096] = [false; 4096];
-    let mut needed = sets::clear();
+    let mut needed = Symbols::new();
     let k = back::walk_back(trace, stored, &mut flags, &mut needed);
     let total = file::header_size(trace) + k.size;
     if out.len() < total {

@@ -2,9 +2,9 @@
 ghost use Rattle.std.specs.Prelude.{◌≡◌, ◌≤◌, ◌<◌, ◌+◌, ◌*◌, ◌^◌};
 ghost use Rattle.expr.specs.Word.{test};
 ghost use Rattle.slice.specs.Mask.{mask_of};
-ghost use Rattle.slice.specs.Shown.{in_set, room_in};
+ghost use Rattle.slice.specs.Shown.{in_set};
 
-use super::sets;
+use super::sets::Symbols;
 
 // The mask with bit s, which was clear, as given.
 fn with_bit(mask: u64, s: usize, set: bool) -> u64
@@ -14,13 +14,13 @@ fn with_bit(mask: u64, s: usize, set: bool) -> u64
     if set { mask | (1u64 << s) } else { mask }
 }
 
-pub fn mask_of(needed: &[u64], inputs: usize) -> u64
-    requires { (inputs ≤ 64) × (inputs ≤ room_in needed.now) }
+pub fn mask_of(needed: &Symbols, inputs: usize) -> u64
+    requires { inputs ≤ 64 }
     ensures { result ≡ mask_of inputs (in_set needed.now) }
 {
     let mut mask: u64 = 0;
     for s in 0..inputs {
-        mask = with_bit(mask, s, sets::ask(s, needed));
+        mask = with_bit(mask, s, needed.contains(s));
     }
     mask
 }

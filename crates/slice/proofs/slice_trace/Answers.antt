@@ -12,11 +12,9 @@ use Rattle.file.specs.Shown.{listed}
 use Rattle.file.proofs.FileLaws.{inputs-room, Header, same_everywhere}
 use Rattle.file.proofs.ReadingLaws.{total-small, reply_refuses}
 use Rattle.trace.specs.Trace.{is_trace, read_trace}
-use Rattle.trace.specs.TraceLaws.{symbol-room}
 use Rattle.trace.specs.Shown.{Ready}
 use Rattle.trace.proofs.Answers.{offset-small, trace_accepted, right-header, is-ready}
 use Rattle.slice.proofs.Answers.{trace_refuses, size_small, no_room, records-room, slice_written}
-use Rattle.slice.proofs.Marks.{same-room}
 use Rattle.file.proofs.CutLaws.{cut-long, ready_cut}
 use Rattle.slice.proofs.slice_trace.Goals as goal
 use Rattle.slice.proofs.slice_trace.Goals.{After-header_size, After-shared_slice_known-1, After-walk_back-k, Else-out-total, Else-reply-ne0}
@@ -73,8 +71,7 @@ walk_back-k-requires c =
     let place = (goal.at.walk_back-k-requires c).Else-reply-ne0 in (
       ready_cut (ready place),
       omega (arith, cut-long (ready place), few place),
-      c.clear-needed.ensures.0,
-      c.clear-needed.ensures.1,
+      c.new-needed.ensures,
       same_everywhere 4096 false,
     )
 
@@ -132,18 +129,8 @@ unfolding input_room
 mask_of-mask-requires c =
     let place = (goal.at.mask_of-mask-requires c).Else-out-total in
     let few : header_inputs (s (a place)) ≤ input_room = omega
-    (arith, (head (a place)).inputs, inputs-room (header_version (s (a place)))) in (
-      omega (arith, few, c.inputs_of.ensures),
-      omega (
-        arith,
-        few,
-        symbol-room,
-        c.inputs_of.ensures,
-        same-room (walked place).walk_back-k.new.needed (walked place).clear-needed.result
-            (walked place).walk_back-k.auto.needed,
-        (walked place).clear-needed.ensures.0,
-      ),
-    )
+    (arith, (head (a place)).inputs, inputs-room (header_version (s (a place)))) in
+    omega (arith, few, c.inputs_of.ensures)
 
 pub overflow_cast-result : goal.overflow_cast-result
 overflow_cast-result c =

@@ -5,7 +5,6 @@ use mathlib.Core.Path.{◌≡◌, ap, ◌∙◌}
 use lib.ListN.{length, get_or}
 use Rattle.expr.specs.Lists.{All, all-at}
 use Rattle.expr.specs.Number.{Byte}
-use Rattle.slice.proofs.Marks.{same-room}
 use Rattle.slice.proofs.Records.{record-length}
 use Rattle.slice.proofs.Statements.{At, is-loaded, counted, stands_at}
 use Rattle.slice.proofs.Walk.{records-small, walking_start, few-behind, small-behind, walk-on, walked, one-less, last_is, left-on}
@@ -17,7 +16,7 @@ loop-k-init c =
     let all : c.into_iter-k-iterator.result.iter.iter.rest.now ≡ c.args.offsets.now = (cc) in (
       cc,
       record { few = omega (arith, ap length all); same = λ i h. ap (λ r. get_or r i 0) all },
-      walking_start _ _ _ _ (ap length all ∙ counted c.requires.0) (omega (arith, ap length all, c.requires.1)) c.requires.3 c.requires.4,
+      walking_start _ _ _ _ (ap length all ∙ counted c.requires.0) (omega (arith, ap length all, c.requires.1)) c.requires.2 c.requires.3,
     )
 
 module _ (c : In-Some) where
@@ -43,7 +42,6 @@ step_back-behind-requires c =
     let place = (goal.at.step_back-behind-requires c).In-Some in
     let w = c.loop-k.invariant.2 in (
       c.type_inv.at.fits,
-      same-room _ _ w.needed_long ∙ c.requires.2,
       omega (arith, k-is place, next place, w.inside, w.room),
       few-behind w (is-loaded c.requires.0).few,
       small-behind w (records-small c.args.trace.now (bytes place) c.requires.0.accepted),
@@ -58,7 +56,7 @@ loop-k-preserved c =
       left-on c.loop-k.invariant.1 _ _ c.in-Some.ensures.steps.1.0,
       walk-on c.loop-k.invariant.2 (next place) x.is-here
           (record-length c.args.trace.now c.in-Some.field-0-1.now (bytes place) x.statement x.is-held)
-          x.is-held (k-is place) c.step_back-behind.ensures c.step_back-behind.auto.kept c.step_back-behind.auto.needed,
+          x.is-held (k-is place) c.step_back-behind.ensures c.step_back-behind.auto.kept,
     )
 
 pub returns : goal.returns
