@@ -4,3 +4,4 @@ pub mod ReadingLaws
 pub mod RecordLaws
 pub mod WalkLaws
 pub mod WordsLaws
+pub mod CutLaws

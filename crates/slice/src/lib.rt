@@ -14,6 +14,7 @@ ghost use Rattle.slice.specs.Answer.{refusal, numbers, SliceWritten};
 ghost use Rattle.slice.specs.Shown.{answer_in};
 
 use file::{Reason, Refusal};
+use sets::Symbols;
 use trace::read;
 
 // Document 01's answer to slicing: a reply and its offset, the length written, the mask of the inputs that the slice reads, and the
@@ -59,15 +60,16 @@ fn try_slice(trace: &[u8], out: &mut [u8]) -> Result<Answer, Refusal>
 {
     let mut offsets: [u16; 4096] = [0; 4096];
     let n = read::read_trace(trace, &mut offsets)?;
+    let stored = &offsets[..n];
     let mut flags: [bool; 4096] = [false; 4096];
-    let mut needed = sets::clear();
-    let k = back::walk_back(trace, &offsets, n, &mut flags, &mut needed);
+    let mut needed = Symbols::new();
+    let k = back::walk_back(trace, stored, &mut flags, &mut needed);
     let total = file::header_size(trace) + k.size;
     if out.len() < total {
         return Err(Reason::ShortBuffer.into());
     }
     let to = write::put_header_of(trace, total, k.count, out);
-    let _ = copy::copy_kept(trace, &offsets, n, &flags, out, to);
+    let _ = copy::copy_kept(trace, stored, &flags, out, to);
     let mask = mask::mask_of(&needed, file::inputs_of(trace));
     Ok(Answer {
         reply: 0,

@@ -21,6 +21,7 @@ ghost use Rattle.unwind.specs.Shown.{current_of};
 
 use copy::Front;
 use file::INPUT_ROOM;
+use std::array;
 use table::read;
 
 // Document 01's answer to writing a trace: a reply and its offset, and the length written.
@@ -45,26 +46,20 @@ fn refused(reply: u32, offset: u32) -> Answer
 fn first_names() -> [u16; INPUT_ROOM]
     ensures { (length result ≡ input_room) × ((s : ℕ) → current_of result s ≡ s) }
 {
-    let mut names: [u16; INPUT_ROOM] = [0; INPUT_ROOM];
-    let mut s: usize = 0;
-    while s < INPUT_ROOM {
-        names[s] = s as u16;
-        s += 1;
-    }
-    names
+    array::from_fn(|s| s as u16)
 }
 
 // The header, the opening and all copies, of a trace whose statements and bytes are counted and fit.
 fn write_all(
     table: &[u8],
     offsets: &[u16],
-    n: usize,
     bound: usize,
     count: usize,
     total: usize,
     out: &mut [u8],
 )
-    requires { Ready table.now offsets.now n × (bound ≤ 255) × (count ≡ 1 + (bound + 1) * (n + 1)) × (count ≤ 4096)
+    requires { Ready table.now offsets.now (length offsets.now) × (bound ≤ 255)
+        × (count ≡ 1 + (bound + 1) * (length offsets.now + 1)) × (count ≤ 4096)
         × (total ≡ trace_size (listed (read_table table.now)) bound) × (total ≤ length out.old) }
     ensures { out.new ≡ over (encode_trace (trace_head (header_inputs table.now))
         (unwind Bound (header_inputs table.now) (listed (read_table table.now)) bound)) out.old }
@@ -78,7 +73,7 @@ fn write_all(
         next: inputs + 1,
         to: b,
     };
-    let _ = copy::write_copies(table, offsets, n, bound, &mut names, f, out);
+    let _ = copy::write_copies(table, offsets, bound, &mut names, f, out);
 }
 
 // Writes the trace of a table under a bound.
@@ -95,19 +90,19 @@ pub fn write_trace(table: &[u8], bound: u64, out: &mut [u8]) -> Answer
         return refused(8, 0);
     }
     let k = bound as usize;
-    let n = t.count;
-    let count = 1 + (k + 1) * (n + 1);
+    let stored = &offsets[..t.count];
+    let count = 1 + (k + 1) * (stored.len() + 1);
     if 4096 < count {
         return refused(9, 0);
     }
-    let total = size::trace_size(table, &offsets, n, k);
+    let total = size::trace_size(table, stored, k);
     if 65535 < total {
         return refused(9, 0);
     }
     if out.len() < total {
         return refused(10, 0);
     }
-    write_all(table, &offsets, n, k, count, total, out);
+    write_all(table, stored, k, count, total, out);
     Answer {
         reply: 0,
         offset: 0,

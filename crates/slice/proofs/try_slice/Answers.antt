@@ -18,11 +18,10 @@ use Rattle.file.specs.Shown.{listed}
 use Rattle.file.proofs.FileLaws.{inputs-room, Header, same_everywhere}
 use Rattle.file.proofs.ReadingLaws.{total-small, refuses}
 use Rattle.trace.specs.Trace.{is_trace, read_trace}
-use Rattle.trace.specs.TraceLaws.{symbol-room}
 use Rattle.trace.specs.Shown.{Ready}
 use Rattle.trace.proofs.Answers.{offset-small, trace_accepted, right-header, is-ready}
 use Rattle.slice.proofs.Answers.{trace_refuses, size_small, no_room, records-room, slice_written}
-use Rattle.slice.proofs.Marks.{same-room}
+use Rattle.file.proofs.CutLaws.{cut-long, ready_cut}
 use Rattle.slice.proofs.try_slice.Goals as goal
 use Rattle.slice.proofs.try_slice.Goals.{After-header_size, After-shared_slice_known-1, After-walk_back-k, After-from_residual, Else-out-total, In_ok-n}
 
@@ -75,13 +74,18 @@ returns-in_err-n-clause-small c =
     let little = offset-small c.in_err-n.ensures (all-at Byte c.args.trace.now (λ i h. (c.type_inv.trace i).fits)) in
     subst (λ r. IfErr {T = Answer} r (λ why. why.offset < 2 ^ 32)) (sym (handed place)) (omega arith)
 
+pub slice_bounds-offsets-end : goal.slice_bounds-offsets-end
+slice_bounds-offsets-end c = (ready (goal.at.slice_bounds-offsets-end c).In_ok-n).room
+
+pub slice_bounds-stored-end : goal.slice_bounds-stored-end
+slice_bounds-stored-end c = sym (cut-long (ready (goal.at.slice_bounds-stored-end c).In_ok-n))
+
 pub walk_back-k-requires : goal.walk_back-k-requires
 walk_back-k-requires c =
     let place = (goal.at.walk_back-k-requires c).In_ok-n in (
-      ready place,
-      few place,
-      c.clear-needed.ensures.0,
-      c.clear-needed.ensures.1,
+      ready_cut (ready place),
+      omega (arith, cut-long (ready place), few place),
+      c.new-needed.ensures,
       same_everywhere 4096 false,
     )
 
@@ -124,8 +128,8 @@ pub copy_kept-requires : goal.copy_kept-requires
 copy_kept-requires c =
     let place = (goal.at.copy_kept-requires c).Else-out-total in
     let put = c.put_header_of-to.ensures in (
-      ready (a place),
-      omega (arith, few (a place), (walked place).walk_back-k.auto.kept),
+      ready_cut (ready (a place)),
+      omega (arith, cut-long (ready (a place)), few (a place), (walked place).walk_back-k.auto.kept),
       records-room (s (a place)) (accepted (a place)) _ _ _ (walked place).walk_back-k.ensures (front place).header_size.ensures
           (out (a place))
           c.if-out-total.false put.0 put.1,
@@ -139,18 +143,8 @@ unfolding input_room
 mask_of-mask-requires c =
     let place = (goal.at.mask_of-mask-requires c).Else-out-total in
     let few : header_inputs (s (a place)) ≤ input_room = omega
-    (arith, (head (a place)).inputs, inputs-room (header_version (s (a place)))) in (
-      omega (arith, few, c.inputs_of.ensures),
-      omega (
-        arith,
-        few,
-        symbol-room,
-        c.inputs_of.ensures,
-        same-room (walked place).walk_back-k.new.needed (walked place).clear-needed.result
-            (walked place).walk_back-k.auto.needed,
-        (walked place).clear-needed.ensures.0,
-      ),
-    )
+    (arith, (head (a place)).inputs, inputs-room (header_version (s (a place)))) in
+    omega (arith, few, c.inputs_of.ensures)
 
 pub overflow_cast-result : goal.overflow_cast-result
 overflow_cast-result c =

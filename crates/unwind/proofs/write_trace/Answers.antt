@@ -3,12 +3,13 @@ use Prim.Native.Nat.{ℕ, ◌+◌, ◌*◌, ◌≤◌}
 use native.Mathlib.Omega.{arith}
 use mathlib.Core.Path.{◌≡◌, refl, sym, ◌∙◌}
 use mathlib.Core.List.{List}
-use lib.ListN.{length, length-replicate}
+use lib.ListN.{length, take, length-replicate}
 use Rattle.expr.specs.Lists.{all-at}
 use Rattle.expr.specs.Number.{Byte}
 use Rattle.file.specs.File.{head_of, Accepted}
 use Rattle.file.specs.Shown.{listed}
 use Rattle.file.proofs.FileLaws.{Header}
+use Rattle.file.proofs.CutLaws.{cut-long, ready_cut}
 use Rattle.file.proofs.ReadingLaws.{reply_refuses}
 use Rattle.table.specs.Table.{is_table, read_table}
 use Rattle.table.specs.Shown.{Ready}
@@ -23,8 +24,15 @@ module _ (c : Else-reply-ne0) where
   abbrev s : List ℕ
   s = c.args.table.now
 
+  whole : Ready s c.read_table-t.new.offsets c.read_table-t.result.count
+  whole = is-ready c.read_table-t.ensures c.if-reply-ne0.false (omega (arith, length-replicate {A = ℕ} 1024 0))
+
+  -- the offsets that are read
+  abbrev stored : List ℕ
+  stored = take c.read_table-t.result.count c.read_table-t.new.offsets
+
   abbrev n : ℕ
-  n = c.read_table-t.result.count
+  n = length stored
 
   accepted : read_table s ≡ Accepted (head_of s) (listed (read_table s))
   accepted = table-accepted c.read_table-t.ensures c.if-reply-ne0.false
@@ -32,8 +40,8 @@ module _ (c : Else-reply-ne0) where
   head : Header is_table 1024 s
   head = right-header c.read_table-t.ensures c.if-reply-ne0.false
 
-  ready : Ready s c.read_table-t.new.offsets n
-  ready = is-ready c.read_table-t.ensures c.if-reply-ne0.false (omega (arith, length-replicate {A = ℕ} 1024 0))
+  ready : Ready s stored n
+  ready = ready_cut whole
 
   count-is : length (listed (read_table s)) ≡ n
   count-is = many c.read_table-t.ensures c.if-reply-ne0.false ∙ sym ready.count
@@ -61,6 +69,12 @@ returns-then-reply-ne0 c =
 pub returns-then-bound-gt255 : goal.returns-then-bound-gt255
 returns-then-bound-gt255 c = bound_refuses _ _ _ _ _ (accepted (goal.at.returns-then-bound-gt255 c).Else-reply-ne0) c.if-bound-gt255.true
     c.refused-then-bound-gt255.ensures
+
+pub slice_bounds-offsets-end : goal.slice_bounds-offsets-end
+slice_bounds-offsets-end c = (whole (goal.at.slice_bounds-offsets-end c).Else-reply-ne0).room
+
+pub slice_bounds-stored-end : goal.slice_bounds-stored-end
+slice_bounds-stored-end c = sym (cut-long (whole (goal.at.slice_bounds-stored-end c).Else-reply-ne0))
 
 pub overflow_add-count-2 : goal.overflow_add-count-2
 overflow_add-count-2 c = omega (arith, few (goal.at.overflow_add-count-2 c).Else-reply-ne0)
