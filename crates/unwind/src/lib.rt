@@ -6,10 +6,11 @@ mod record;
 mod size;
 mod tokens;
 
-ghost use Rattle.std.specs.Prelude.{◌≡◌, ℕ, ◌+◌, ◌*◌, ◌≤◌, length};
+ghost use Rattle.std.specs.Prelude.{◌≡◌, ℕ, ◌+◌, ◌*◌, ◌^◌, ◌≤◌, ◌<◌, length};
+ghost use Rattle.std.specs.Result.{MatchResult};
 ghost use Rattle.file.specs.Outcome.{Bound};
 ghost use Rattle.file.specs.File.{input_room, header_inputs};
-ghost use Rattle.file.specs.Shown.{listed};
+ghost use Rattle.file.specs.Shown.{reply_of, listed};
 ghost use Rattle.table.specs.Table.{read_table};
 ghost use Rattle.table.specs.Shown.{Ready};
 ghost use Rattle.trace.specs.Trace.{trace_head, encode_trace};
@@ -17,10 +18,10 @@ ghost use Rattle.write.specs.Splice.{over};
 ghost use Rattle.unwind.specs.Unwind.{unwind};
 ghost use Rattle.unwind.specs.Size.{trace_size};
 ghost use Rattle.unwind.specs.Answer.{refusal, numbers, TraceWritten};
-ghost use Rattle.unwind.specs.Shown.{current_of};
+ghost use Rattle.unwind.specs.Shown.{current_of, answer_in};
 
 use copy::Front;
-use file::INPUT_ROOM;
+use file::{INPUT_ROOM, Reason, Refusal};
 use std::array;
 use table::read;
 
@@ -32,13 +33,27 @@ pub struct Answer {
     pub length: u32,
 }
 
-fn refused(reply: u32, offset: u32) -> Answer
-    ensures { result ≡ numbers (refusal reply offset) }
-{
-    Answer {
-        reply: reply,
-        offset: offset,
-        length: 0,
+impl Answer {
+    fn written(length: usize) -> Answer
+        requires { length < 2 ^ 32 }
+        ensures { result ≡ record { reply = 0; offset = 0; length = length } }
+    {
+        Answer {
+            reply: 0,
+            offset: 0,
+            length: length as u32,
+        }
+    }
+
+    fn refused(why: Refusal) -> Answer
+        requires { why.offset < 2 ^ 32 }
+        ensures { result ≡ numbers (refusal (reply_of why.reason) why.offset) }
+    {
+        Answer {
+            reply: why.reason.into(),
+            offset: why.offset as u32,
+            length: 0,
+        }
     }
 }
 
@@ -80,32 +95,35 @@ fn write_all(
 pub fn write_trace(table: &[u8], bound: u64, out: &mut [u8]) -> Answer
     ensures { TraceWritten table.now bound out.old out.new result }
 {
-    let mut offsets: [u16; 1024] = [0; 1024];
-    let t = read::read_table(table, &mut offsets);
-    let reply = t.reply;
-    if reply != 0 {
-        return refused(reply as u32, t.offset as u32);
+    match try_write(table, bound, out) {
+        Ok(length) => Answer::written(length),
+        Err(why) => Answer::refused(why),
     }
+}
+
+// The length of a trace that is written, or why there is none.
+fn try_write(table: &[u8], bound: u64, out: &mut [u8]) -> Result<usize, Refusal>
+    ensures answer { TraceWritten table.now bound out.old out.new (answer_in result) }
+    ensures small { MatchResult result (λ length. length < 2 ^ 32) (λ why. why.offset < 2 ^ 32) }
+{
+    let mut offsets: [u16; 1024] = [0; 1024];
+    let n = read::read_table(table, &mut offsets)?;
     if 255 < bound {
-        return refused(8, 0);
+        return Err(Reason::HighBound.into());
     }
     let k = bound as usize;
-    let stored = &offsets[..t.count];
+    let stored = &offsets[..n];
     let count = 1 + (k + 1) * (stored.len() + 1);
     if 4096 < count {
-        return refused(9, 0);
+        return Err(Reason::LongTrace.into());
     }
     let total = size::trace_size(table, stored, k);
     if 65535 < total {
-        return refused(9, 0);
+        return Err(Reason::LongTrace.into());
     }
     if out.len() < total {
-        return refused(10, 0);
+        return Err(Reason::ShortBuffer.into());
     }
     write_all(table, stored, k, count, total, out);
-    Answer {
-        reply: 0,
-        offset: 0,
-        length: total as u32,
-    }
+    Ok(total)
 }
