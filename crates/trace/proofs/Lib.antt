@@ -4,5 +4,6 @@ pub mod Learning
 pub mod Walk
 pub mod Moves
 pub mod Passes
+pub mod Standing
 pub mod Judging
 pub mod Answers

@@ -1,5 +1,6 @@
 -- What the code's values mean: its answers as functions of the definitions.
-use Rattle.std.specs.Prelude.{ℕ, suc, ◌+◌, Bool, true, false, cond, ◌||◌, List, drop, get_or, set, replicate, eqb, Result, Ok, Err}
+use Rattle.std.specs.Prelude.{ℕ, zero, suc, ◌+◌, ◌≤◌, Bool, true, false, cond, ◌||◌, List, length, drop, get_or, set, replicate, eqb}
+use Rattle.std.specs.Prelude.{Result, Ok, Err}
 use Rattle.expr.specs.Number.{number_of}
 use Rattle.expr.specs.Token.{Token}
 use Rattle.expr.specs.Expr.{below, readable}
@@ -67,6 +68,11 @@ ReadTrace trace before after r = ReadFile (read_trace trace) (stmt_count trace) 
 -- a trace that is accepted, with its n records' offsets stored
 abbrev pub Ready : (trace offsets : List ℕ) (n : ℕ) → Type 0
 Ready trace offsets n = File.Ready (read_trace trace) trace offsets n
+
+-- n whole records stand one after the other, from an offset on
+abbrev pub Stand : (n : ℕ) (trace : List ℕ) (at : ℕ) → Type 0
+Stand zero s at = Unit {0}
+Stand (suc n) s at = (at + (2 + number_of 2 (drop at s)) ≤ length s) × Stand n s (at + (2 + number_of 2 (drop at s)))
 
 -- ---- judging
 

@@ -2,6 +2,7 @@
 #![tactic(auto)]
 
 pub mod read;
+pub mod records;
 mod steps;
 
 ghost use Rattle.std.specs.Prelude.{◌≡◌, ◌<◌, ◌^◌};

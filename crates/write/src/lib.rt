@@ -2,15 +2,46 @@
 #![tactic(auto)]
 
 ghost use Rattle.std.specs.Prelude.{[], ◌∷◌, ◌≡◌, ◌+◌, ◌^◌, ◌≤◌, ◌<◌, length, set};
+ghost use Rattle.std.specs.Result.{IfErr};
 ghost use Rattle.expr.specs.declared.File.TheVariants.{Trace};
 ghost use Rattle.expr.specs.Number.{bytes_of};
 ghost use Rattle.expr.specs.Token.{Const, Symbol, token_bytes};
 ghost use Rattle.file.specs.File.{head_size, inputs_limit, header_version, header_size, header_inputs, head_of, header};
 ghost use Rattle.write.specs.Splice.{Wrote};
 ghost use Rattle.write.specs.Decimal.{decimal};
-ghost use Rattle.write.specs.Shown.{digit_count};
+ghost use Rattle.write.specs.Shown.{written, digit_count};
 
 use expr::token;
+use file::Refusal;
+
+// The answer of a call that writes: a reply and its offset, and the length written.
+#[derive(Clone, Copy)]
+pub struct Written {
+    pub reply: u32,
+    pub offset: u32,
+    pub length: u32,
+}
+
+impl Written {
+    // From how writing went: so many bytes are written, or none, for a reason.
+    pub fn of(how: Result<u32, Refusal>) -> Written
+        requires { IfErr how (λ why. why.offset < 2 ^ 32) }
+        ensures { result ≡ written how }
+    {
+        match how {
+            Ok(length) => Written {
+                reply: 0,
+                offset: 0,
+                length,
+            },
+            Err(why) => Written {
+                reply: why.reason.into(),
+                offset: why.offset as u32,
+                length: 0,
+            },
+        }
+    }
+}
 
 pub fn put_byte(b: u8, out: &mut [u8], at: usize) -> usize
     requires { at + 1 ≤ length out.old }
