@@ -1,5 +1,5 @@
 -- What the code's values mean: its answers as functions of the definitions.
-use Rattle.std.specs.Prelude.{ℕ, ◌≡◌, Bool, List, [], get_or, Result, Ok, Err}
+use Rattle.std.specs.Prelude.{ℕ, ◌≡◌, Bool, List, [], get_or}
 use Rattle.std.proofs.Math.Option.{Option, none, some}
 use Rattle.expr.specs.declared.File.TheVariants.{Trace}
 use Rattle.expr.specs.Token.{Token, token_bytes}
@@ -15,10 +15,6 @@ use Rattle.unwind.specs.Places.{Exit, Place, At, action_in}
 use Rattle.unwind.specs.Unwind.{Newest, statements}
 use Rattle.unwind.specs.Unwind.{after}
 use Rattle.unwind.specs.Size.{instr_size}
-use Rattle.file.specs.Shown.{reply_of}
-use Rattle.file.specs.declared.Refusal.{Refusal}
-use Rattle.unwind.specs.Answer.{refusal, numbers}
-use Rattle.unwind.specs.declared.Answer.{Answer}
 use Rattle.unwind.specs.declared.copy.Front.{Front}
 
 -- ---- the newest symbols
@@ -59,10 +55,3 @@ pub record Written (c : Newest) (ps : List Place) (out : List ℕ) (to : ℕ) (o
 abbrev pub size_in : (last : Bool) (i : ℕ) → Body Instr → ℕ
 size_in last i (Good x) = instr_size last i x
 size_in last i (Bad reply) = 0
-
--- ---- the answer
-
--- that of a trace that is written with so many bytes, or of a refusal
-abbrev pub answer_in : Result ℕ Refusal → Answer
-answer_in (Ok n) = record { reply = 0; offset = 0; length = n }
-answer_in (Err f) = numbers (refusal (reply_of f.reason) f.offset)

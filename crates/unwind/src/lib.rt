@@ -7,55 +7,25 @@ mod size;
 mod tokens;
 
 ghost use Rattle.std.specs.Prelude.{◌≡◌, ℕ, ◌+◌, ◌*◌, ◌^◌, ◌≤◌, ◌<◌, length};
-ghost use Rattle.std.specs.Result.{MatchResult};
+ghost use Rattle.std.specs.Result.{IfErr};
 ghost use Rattle.file.specs.Outcome.{Bound};
 ghost use Rattle.file.specs.File.{input_room, header_inputs};
-ghost use Rattle.file.specs.Shown.{reply_of, listed};
+ghost use Rattle.file.specs.Shown.{listed};
 ghost use Rattle.table.specs.Table.{read_table};
 ghost use Rattle.table.specs.Shown.{Ready};
 ghost use Rattle.trace.specs.Trace.{trace_head, encode_trace};
 ghost use Rattle.write.specs.Splice.{over};
+ghost use Rattle.write.specs.Shown.{written};
 ghost use Rattle.unwind.specs.Unwind.{unwind};
 ghost use Rattle.unwind.specs.Size.{trace_size};
-ghost use Rattle.unwind.specs.Answer.{refusal, numbers, TraceWritten};
-ghost use Rattle.unwind.specs.Shown.{current_of, answer_in};
+ghost use Rattle.unwind.specs.Answer.{TraceWritten};
+ghost use Rattle.unwind.specs.Shown.{current_of};
 
 use copy::Front;
 use file::{INPUT_ROOM, Reason, Refusal};
 use std::array;
 use table::read;
-
-// Document 01's answer to writing a trace: a reply and its offset, and the length written.
-#[derive(Clone, Copy)]
-pub struct Answer {
-    pub reply: u32,
-    pub offset: u32,
-    pub length: u32,
-}
-
-impl Answer {
-    fn written(length: usize) -> Answer
-        requires { length < 2 ^ 32 }
-        ensures { result ≡ record { reply = 0; offset = 0; length = length } }
-    {
-        Answer {
-            reply: 0,
-            offset: 0,
-            length: length as u32,
-        }
-    }
-
-    fn refused(why: Refusal) -> Answer
-        requires { why.offset < 2 ^ 32 }
-        ensures { result ≡ numbers (refusal (reply_of why.reason) why.offset) }
-    {
-        Answer {
-            reply: why.reason.into(),
-            offset: why.offset as u32,
-            length: 0,
-        }
-    }
-}
+pub use write::Written as Answer;
 
 // At first the current symbol of every program symbol is the input itself.
 fn first_names() -> [u16; INPUT_ROOM]
@@ -95,16 +65,13 @@ fn write_all(
 pub fn write_trace(table: &[u8], bound: u64, out: &mut [u8]) -> Answer
     ensures { TraceWritten table.now bound out.old out.new result }
 {
-    match try_write(table, bound, out) {
-        Ok(length) => Answer::written(length),
-        Err(why) => Answer::refused(why),
-    }
+    Answer::of(try_write(table, bound, out))
 }
 
 // The length of a trace that is written, or why there is none.
-fn try_write(table: &[u8], bound: u64, out: &mut [u8]) -> Result<usize, Refusal>
-    ensures answer { TraceWritten table.now bound out.old out.new (answer_in result) }
-    ensures small { MatchResult result (λ length. length < 2 ^ 32) (λ why. why.offset < 2 ^ 32) }
+fn try_write(table: &[u8], bound: u64, out: &mut [u8]) -> Result<u32, Refusal>
+    ensures answer { TraceWritten table.now bound out.old out.new (written result) }
+    ensures small { IfErr result (λ why. why.offset < 2 ^ 32) }
 {
     let mut offsets: [u16; 1024] = [0; 1024];
     let n = read::read_table(table, &mut offsets)?;
@@ -125,5 +92,5 @@ fn try_write(table: &[u8], bound: u64, out: &mut [u8]) -> Result<usize, Refusal>
         return Err(Reason::ShortBuffer.into());
     }
     write_all(table, stored, k, count, total, out);
-    Ok(total)
+    Ok(total as u32)
 }

@@ -5,10 +5,10 @@ use mathlib.Core.Path.{◌≡◌, refl, sym, ap, ◌∙◌, subst}
 use mathlib.Core.List.{List}
 use lib.ListN.{length, take, length-replicate}
 use Rattle.std.specs.Prelude.{◌^◌, Result, Err}
-use Rattle.std.specs.Result.{MatchResult}
+use Rattle.std.specs.Result.{IfErr}
 use Rattle.std.proofs.lemmas.Result.{err_from_is_err_and}
 use Rattle.file.specs.declared.Refusal.{Refusal}
-use Rattle.unwind.specs.Shown.{answer_in}
+use Rattle.write.specs.Shown.{written}
 use Rattle.expr.specs.Lists.{all-at}
 use Rattle.expr.specs.Number.{Byte}
 use Rattle.file.specs.File.{head_of, Accepted}
@@ -66,18 +66,18 @@ handed c =
 pub returns-in_err-n-clause-answer : goal.returns-in_err-n-clause-answer
 returns-in_err-n-clause-answer c =
     table_refuses _ _ _ _ _ (refuses c.in_err-n.ensures)
-    (ap answer_in (handed (goal.at.returns-in_err-n-clause-answer c).After-from_residual))
+    (ap written (handed (goal.at.returns-in_err-n-clause-answer c).After-from_residual))
 
 pub returns-in_err-n-clause-small : goal.returns-in_err-n-clause-small
 returns-in_err-n-clause-small c =
     let s = c.args.table.now in
     let little = offset-small s c.in_err-n.ensures (all-at Byte s (λ i h. (c.type_inv.table i).fits)) in
-    subst (λ r. MatchResult r (λ length. length < 2 ^ 32) (λ why. why.offset < 2 ^ 32))
+    subst (λ r. IfErr {T = ℕ} r (λ why. why.offset < 2 ^ 32))
     (sym (handed (goal.at.returns-in_err-n-clause-small c).After-from_residual)) (omega arith)
 
 pub returns-then-bound-gt255-clause-answer : goal.returns-then-bound-gt255-clause-answer
 returns-then-bound-gt255-clause-answer c = bound_refuses _ _ _ _ _ (accepted (goal.at.returns-then-bound-gt255-clause-answer c).In_ok-n) c.if-bound-gt255.true
-    (ap (λ f. answer_in (Err f)) c.into.ensures)
+    (ap (λ f. written (Err f)) c.into.ensures)
 
 pub slice_bounds-offsets-end : goal.slice_bounds-offsets-end
 slice_bounds-offsets-end c = (whole (goal.at.slice_bounds-offsets-end c).In_ok-n).room
@@ -99,7 +99,7 @@ pub returns-then-count-gt4096-clause-answer : goal.returns-then-count-gt4096-cla
 returns-then-count-gt4096-clause-answer c =
     let place = (goal.at.returns-then-count-gt4096-clause-answer c).In_ok-n in
     count_refuses _ _ _ _ _ (accepted place) c.if-bound-gt255.false _
-    (count-is place) c.if-count-gt4096.true (ap (λ f. answer_in (Err f)) c.into-then-count-gt4096.ensures)
+    (count-is place) c.if-count-gt4096.true (ap (λ f. written (Err f)) c.into-then-count-gt4096.ensures)
 
 pub trace_size-total-requires : goal.trace_size-total-requires
 trace_size-total-requires c = (c.if-bound-gt255.false, ready (goal.at.trace_size-total-requires c).In_ok-n)
@@ -109,14 +109,14 @@ returns-then-total-gt65535-clause-answer c =
     let place = (goal.at.returns-then-total-gt65535-clause-answer c).In_ok-n in
     size_refuses _ _ _ _ _ (accepted place) c.if-bound-gt255.false _ (count-is place)
     c.if-count-gt4096.false _ c.trace_size-total.ensures c.if-total-gt65535.true
-    (ap (λ f. answer_in (Err f)) c.into-then-total-gt65535.ensures)
+    (ap (λ f. written (Err f)) c.into-then-total-gt65535.ensures)
 
 pub returns-then-out-total-clause-answer : goal.returns-then-out-total-clause-answer
 returns-then-out-total-clause-answer c =
     let place = (goal.at.returns-then-out-total-clause-answer c).In_ok-n in
     room_refuses _ _ _ _ _ (accepted place) c.if-bound-gt255.false _ (count-is place)
     c.if-count-gt4096.false _ c.trace_size-total.ensures
-    c.if-total-gt65535.false c.if-out-total.true (ap (λ f. answer_in (Err f)) c.into-then-out-total.ensures)
+    c.if-total-gt65535.false c.if-out-total.true (ap (λ f. written (Err f)) c.into-then-out-total.ensures)
 
 pub write_all-requires : goal.write_all-requires
 write_all-requires c = (
