@@ -5,3 +5,4 @@ pub mod RecordLaws
 pub mod WalkLaws
 pub mod WordsLaws
 pub mod Turns
+pub mod CutLaws

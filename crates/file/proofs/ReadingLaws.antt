@@ -12,9 +12,7 @@ use Rattle.expr.specs.NumberLaws.{number_lt}
 use Rattle.file.specs.File.{Head, header_version, header_size, header_total, header_count, head_of, after_header, header_reply, Body}
 use Rattle.file.specs.File.{Records, Read, Stop}
 use Rattle.file.specs.File.{records, Input, Accepted, Refused, finish, read_file}
-use Rattle.std.specs.Prelude.{Result, Ok, Err, take}
-use Rattle.std.proofs.Common.{length-take-le}
-use Rattle.std.proofs.lemmas.List.{get_or-take}
+use Rattle.std.specs.Prelude.{Result, Ok, Err}
 use Rattle.file.specs.Shown.{reply_of, read_count, reading_of, reading_in, offsets_from, offsets_in, ReadRecords, is_accepted, listed}
 use Rattle.file.specs.Shown.{file_reading, file_count}
 use Rattle.file.specs.Shown.{ReadFile, Ready}
@@ -51,18 +49,6 @@ refuses {A} {file} {count} {f = f} w = go file refl w.answer
     go : (x : Input A) → file ≡ x → reading_in count (Err f) ≡ file_reading count x → file ≡ Refused (reply_of f.reason) f.offset
     go (Accepted head xs) e q = absurd (omega (arith, ap (λ r. r.reply) q, reply-some f.reason))
     go (Refused k at) e q = e ∙ sym (ap₂ {C = Input A} Refused (ap (λ r. r.reply) q) (ap (λ r. r.offset) q))
-
--- the offsets of all records, and no more
-pub ready-front : {A : Type 0} {file : Input A} {s offsets : List ℕ} {n : ℕ} → Ready file s offsets n
-    → Ready file s (take n offsets) (length (take n offsets))
-ready-front {A} {file} {s} {offsets} {n} r =
-    let long : n ≡ length (take n offsets) = sym (length-take-le n offsets r.room) in
-    subst (Ready file s (take n offsets)) long (record {
-      accepted = r.accepted;
-      count = r.count;
-      room = omega arith;
-      stored = λ i h. get_or-take n offsets i 0 h ∙ r.stored i h;
-    })
 
 module _ {A St : Type 0} (known : ℕ → Bool) (limit : ℕ) (one : (head : Head) (n : ℕ) → St → List ℕ → Body A) (next : St → A → St)
     (first : (head : Head) → St) (s : List ℕ) where

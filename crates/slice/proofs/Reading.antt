@@ -10,56 +10,55 @@ use Rattle.expr.specs.Expr.{below, parse}
 use Rattle.expr.specs.Eval.{reads_token, reads}
 use Rattle.expr.specs.Shown.{is_whole, tokens_of, size_of}
 use Rattle.expr.proofs.Rests.{Rest, tokens, rest-start, turn, rest_end}
-use Rattle.slice.specs.Shown.{in_set, room_in, reads_read}
+use Rattle.trace.specs.Shown.{symbol_room}
+use Rattle.slice.specs.Shown.{reads_read}
 
 -- ---- a token
 
 -- the token at a place has m bytes, and what it reads is marked
-abbrev Marks : (e : List ℕ) (i m : ℕ) (needed needed' : List ℕ) → Type 0
+abbrev Marks : (e : List ℕ) (i m : ℕ) (needed needed' : ℕ → Bool) → Type 0
 Marks e i m needed needed' =
     (m ≡ size_of Trace (read_token Trace (drop i e)))
-    × ((x : ℕ) → in_set needed' x ≡ (reads_read x (read_token Trace (drop i e)) || in_set needed x))
+    × ((x : ℕ) → needed' x ≡ (reads_read x (read_token Trace (drop i e)) || needed x))
 
 -- ---- the loop
 
 -- what is marked, with what the tokens that are left read, is what the expression reads
-pub record Marking (e : List ℕ) (needed₀ needed : List ℕ) (i : ℕ) : Type 0 where
-  pub long : length needed ≡ length needed₀
-  pub rest : Rest Trace (room_in needed₀) e i
-  pub same : (x : ℕ) → (reads x (tokens rest) || in_set needed x)
-      ≡ (reads x (tokens_of (parse Trace (below (room_in needed₀)) e)) || in_set needed₀ x)
+pub record Marking (e : List ℕ) (needed₀ needed : ℕ → Bool) (i : ℕ) : Type 0 where
+  pub rest : Rest Trace symbol_room e i
+  pub same : (x : ℕ) → (reads x (tokens rest) || needed x)
+      ≡ (reads x (tokens_of (parse Trace (below symbol_room) e)) || needed₀ x)
 
-pub marking_start : (e : List ℕ) (needed : List ℕ) → is_whole (parse Trace (below (room_in needed)) e) ≡ true → Marking e needed needed 0
-marking_start e needed h = record { long = refl; rest = rest-start Trace (room_in needed) e h; same = λ x. refl }
+pub marking_start : (e : List ℕ) (needed : ℕ → Bool) → is_whole (parse Trace (below symbol_room) e) ≡ true → Marking e needed needed 0
+marking_start e needed h = record { rest = rest-start Trace symbol_room e h; same = λ x. refl }
 
 or_moved : (a b c : Bool) → (b || (a || c)) ≡ ((a || b) || c)
 or_moved true true c = refl
 or_moved true false c = refl
 or_moved false b c = refl
 
-module _ {e : List ℕ} {needed₀ needed : List ℕ} {i : ℕ} (v : Marking e needed₀ needed i) where
-  pub record MarkOn (needed' : List ℕ) (m : ℕ) : Type 0 where
+module _ {e : List ℕ} {needed₀ needed : ℕ → Bool} {i : ℕ} (v : Marking e needed₀ needed i) where
+  pub record MarkOn (needed' : ℕ → Bool) (m : ℕ) : Type 0 where
     pub some_byte : 1 ≤ m
     pub then : Marking e needed₀ needed' (i + m)
 
-  pub mark_on : i < length e → {needed' : List ℕ} {m : ℕ} → length needed' ≡ length needed → Marks e i m needed needed'
+  pub mark_on : i < length e → {needed' : ℕ → Bool} {m : ℕ} → Marks e i m needed needed'
       → MarkOn needed' m
-  mark_on h {needed'} {m} l (q, r) =
+  mark_on h {needed'} {m} (q, r) =
       let t = turn v.rest h m q in
       let left : ℕ → Bool = λ x. reads x (tokens t.then) in
       record {
         some_byte = t.some_byte;
         then = record {
-          long = l ∙ v.long;
           rest = t.then;
           same = λ x.
-              ap (λ b. left x || b) (r x ∙ ap (λ o. reads_read x o || in_set needed x) t.is_read)
-              ∙ or_moved (reads_token x t.token) (left x) (in_set needed x)
-              ∙ ap (λ ts. reads x ts || in_set needed x) (sym t.split)
+              ap (λ b. left x || b) (r x ∙ ap (λ o. reads_read x o || needed x) t.is_read)
+              ∙ or_moved (reads_token x t.token) (left x) (needed x)
+              ∙ ap (λ ts. reads x ts || needed x) (sym t.split)
               ∙ v.same x;
         };
       }
 
-  pub all-marked : length e ≤ i → (x : ℕ) → in_set needed x
-      ≡ (reads x (tokens_of (parse Trace (below (room_in needed₀)) e)) || in_set needed₀ x)
-  all-marked h x = sym (ap (λ ts. reads x ts || in_set needed x) (rest_end v.rest h)) ∙ v.same x
+  pub all-marked : length e ≤ i → (x : ℕ) → needed x
+      ≡ (reads x (tokens_of (parse Trace (below symbol_room) e)) || needed₀ x)
+  all-marked h x = sym (ap (λ ts. reads x ts || needed x) (rest_end v.rest h)) ∙ v.same x

@@ -5,24 +5,24 @@ ghost use Rattle.expr.specs.Token.{read_token};
 ghost use Rattle.expr.specs.Expr.{below, parse};
 ghost use Rattle.expr.specs.Eval.{reads};
 ghost use Rattle.expr.specs.Shown.{is_whole, tokens_of, size_of, Stands};
-ghost use Rattle.slice.specs.Shown.{in_set, room_in, reads_read};
+ghost use Rattle.trace.specs.Shown.{symbol_room};
+ghost use Rattle.slice.specs.Shown.{in_set, reads_read};
 
-use super::sets;
+use super::sets::Symbols;
 use expr::token::Read;
 use expr::{File, token};
 
 // The symbol of the token at a place, if it is one, becomes needed; the token's bytes.
-fn mark_token(e: &[u8], i: usize, needed: &mut [u64]) -> usize
-    requires { (i < length e.now) × Stands Trace (room_in needed.old) e.now i }
+fn mark_token(e: &[u8], i: usize, needed: &mut Symbols) -> usize
+    requires { (i < length e.now) × Stands Trace symbol_room e.now i }
     ensures { (result ≡ size_of Trace (read_token Trace (drop i e.now)))
-        × ((x : ℕ) → in_set needed.new x ≡ (reads_read x (read_token Trace (drop i e.now)) || in_set needed.old
-        x)) }
+        × ((x : ℕ) → in_set needed.new x ≡ (reads_read x (read_token Trace (drop i e.now)) || in_set needed.old x)) }
 {
     let t = token::token_here(e, i, File::Trace);
     let size = token::size_of(t, File::Trace);
     match t {
         Read::Symbol(s) => {
-            sets::mark(s, needed);
+            needed.insert(s);
             size
         }
         Read::Constant(_) => size,
@@ -32,10 +32,10 @@ fn mark_token(e: &[u8], i: usize, needed: &mut [u64]) -> usize
 }
 
 // The symbols of an expression become needed.
-pub fn mark_reads(e: &[u8], needed: &mut [u64])
-    requires { is_whole (parse Trace (below (room_in needed.old)) e.now) ≡ true }
+pub fn mark_reads(e: &[u8], needed: &mut Symbols)
+    requires { is_whole (parse Trace (below symbol_room) e.now) ≡ true }
     ensures { (x : ℕ) → in_set needed.new x
-        ≡ (reads x (tokens_of (parse Trace (below (room_in needed.old)) e.now)) || in_set needed.old x) }
+        ≡ (reads x (tokens_of (parse Trace (below symbol_room) e.now)) || in_set needed.old x) }
 {
     let mut i: usize = 0;
     while i < e.len() {

@@ -30,7 +30,8 @@ pub returns-in_err-read_trace-clause-answer : goal.returns-in_err-read_trace-cla
 returns-in_err-read_trace-clause-answer c =
     let s = c.args.trace.now in
     let out = c.args.out.now in
-    subst (λ r. ScriptWritten s out out (Code.written r)) (sym (handed (goal.at.returns-in_err-read_trace-clause-answer c).After-from_residual))
+    subst (λ r. ScriptWritten s out out (Code.written r))
+    (sym (handed (goal.at.returns-in_err-read_trace-clause-answer c).After-from_residual))
     (trace_refuses s out _ _ (refuses c.in_err-read_trace.ensures) _ refl)
 
 pub returns-in_err-read_trace-clause-small : goal.returns-in_err-read_trace-clause-small

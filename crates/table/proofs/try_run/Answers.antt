@@ -4,7 +4,6 @@ use native.Mathlib.Omega.{arith}
 use mathlib.Core.Path.{◌≡◌, sym, ap, ◌∙◌, subst}
 use mathlib.Core.List.{List}
 use lib.ListN.{length, replicate, length-replicate}
-use Rattle.std.proofs.Common.{length-take-le}
 use lib.Seq.{length-sets}
 use Rattle.std.specs.Prelude.{◌^◌, Result, Err}
 use Rattle.std.specs.Result.{IfErr}
@@ -16,7 +15,8 @@ use Rattle.file.specs.File.{input_room, header_version, header_inputs, head_of, 
 use Rattle.file.specs.Shown.{listed}
 use Rattle.file.specs.declared.Refusal.{Refusal}
 use Rattle.file.proofs.FileLaws.{inputs-room, Header, copy_env}
-use Rattle.file.proofs.ReadingLaws.{refuses, ready-front}
+use Rattle.file.proofs.CutLaws.{cut-long, ready_cut}
+use Rattle.file.proofs.ReadingLaws.{refuses}
 use Rattle.table.specs.declared.steps.Ran.{Ran}
 use Rattle.table.specs.Table.{is_table, read_table}
 use Rattle.table.specs.Answer.{answer_of}
@@ -88,7 +88,7 @@ slice_bounds-offsets-end c = (ready (goal.at.slice_bounds-offsets-end c).In_ok-n
 
 pub slice_bounds-run_from-end : goal.slice_bounds-run_from-end
 slice_bounds-run_from-end c =
-    sym (length-take-le c.in_ok-n.n c.read_table.new.offsets (ready (goal.at.slice_bounds-run_from-end c).In_ok-n).room)
+    sym (cut-long (ready (goal.at.slice_bounds-run_from-end c).In_ok-n))
 
 pub run_from-requires : goal.run_from-requires
 unfolding input_room
@@ -96,7 +96,7 @@ run_from-requires c =
     let place = (goal.at.run_from-requires c).In_ok-n in
     let words = c.args.words.now in (
       c.if-bound-gt255.false,
-      ready-front (ready place),
+      ready_cut (ready place),
       omega (
         arith,
         few-inputs place,
@@ -114,6 +114,6 @@ returns-clause-answer c =
     let right : length words ≡ header_inputs (s place) = c.if-words-inputs_of.false ∙ c.inputs_of.ensures in
     ap answer_of c.run_from.ensures
     ∙ ran _ _ _ _ _ (accepted place) c.if-bound-gt255.false right _
-    (length-take-le c.in_ok-n.n c.read_table.new.offsets (ready place).room ∙ count-is place)
+    (cut-long (ready place) ∙ count-is place)
     c.copy_words.new.cells
     (ap env_of c.copy_words.ensures ∙ copy_env input_room words (omega (arith, right, few-inputs place)))

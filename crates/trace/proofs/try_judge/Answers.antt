@@ -7,7 +7,6 @@ use lib.ListN.{length, replicate, length-replicate}
 use lib.Seq.{length-sets}
 use Rattle.std.specs.Prelude.{◌^◌, Result, Err}
 use Rattle.std.specs.Result.{IfErr}
-use Rattle.std.proofs.Common.{length-take-le}
 use Rattle.std.proofs.lemmas.Result.{err_from_is_err_and}
 use Rattle.expr.specs.Lists.{all-at}
 use Rattle.expr.specs.Number.{Byte}
@@ -17,7 +16,8 @@ use Rattle.file.specs.Shown.{listed}
 use Rattle.file.specs.declared.Failure.{Failure}
 use Rattle.file.specs.declared.Refusal.{Refusal}
 use Rattle.file.proofs.FileLaws.{inputs-room, Header, copy_env}
-use Rattle.file.proofs.ReadingLaws.{refuses, ready-front}
+use Rattle.file.proofs.CutLaws.{cut-long, ready_cut}
+use Rattle.file.proofs.ReadingLaws.{refuses}
 use Rattle.trace.specs.Trace.{is_trace, read_trace}
 use Rattle.trace.specs.TraceLaws.{symbol-room}
 use Rattle.trace.specs.Answer.{answer_of}
@@ -79,13 +79,13 @@ slice_bounds-offsets-end c = (ready (goal.at.slice_bounds-offsets-end c).In_ok-n
 
 pub slice_bounds-judge_from-end : goal.slice_bounds-judge_from-end
 slice_bounds-judge_from-end c =
-    sym (length-take-le c.in_ok-n.n c.read_trace.new.offsets (ready (goal.at.slice_bounds-judge_from-end c).In_ok-n).room)
+    sym (cut-long (ready (goal.at.slice_bounds-judge_from-end c).In_ok-n))
 
 pub judge_from-requires : goal.judge_from-requires
 unfolding symbol_room
 judge_from-requires c =
     let words = c.args.words.now in (
-      ready-front (ready (goal.at.judge_from-requires c).In_ok-n),
+      ready_cut (ready (goal.at.judge_from-requires c).In_ok-n),
       ap length c.copy_words.ensures ∙ length-sets (replicate symbol_room 0) 0 words ∙ length-replicate {A = ℕ} symbol_room 0,
     )
 

@@ -9,4 +9,5 @@ returns-in-3 c =
 
 pub returns-in_default : goal.returns-in_default
 returns-in_default c =
-    (wrote_as (opening-assume c.args.kind (λ q. omega arith)) c.fit_part-in_default.ensures, omega (arith, c.fit_part-in_default.ensures.next))
+    let w = c.fit_part-in_default.ensures in
+    (wrote_as (opening-assume c.args.kind (λ q. omega arith)) w, omega (arith, w.next))
