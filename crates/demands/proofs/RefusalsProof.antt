@@ -20,7 +20,7 @@ use Rattle.trace.specs.Judge.{judge}
 use Rattle.trace.specs.Answer.{judge_answer}
 use Rattle.trace.specs.Answer as Judging
 use Rattle.write.specs.Splice.{over}
-use Rattle.unwind.specs.declared.Answer as Written
+use Rattle.write.specs.declared.Written.{Written}
 use Rattle.unwind.specs.Unwind.{unwind}
 use Rattle.unwind.specs.Answer.{Traced, trace_answer, TraceWritten}
 use Rattle.unwind.specs.Answer as Unwinding
@@ -28,7 +28,6 @@ use Rattle.slice.specs.declared.Answer as Kept
 use Rattle.slice.specs.Slice.{slice}
 use Rattle.slice.specs.Answer.{Sliced, slice_answer, SliceWritten}
 use Rattle.slice.specs.Answer as Slicing
-use Rattle.script.specs.declared.Answer as Exported
 use Rattle.script.specs.ScriptText.{script_text}
 use Rattle.script.specs.Answer.{script_answer, ScriptWritten}
 use Rattle.script.specs.Answer as Scripting
@@ -110,7 +109,7 @@ trace_empty table K room = go (read_table table)
         bounded (leb K 255) (Unwinding.trace_of room head.inputs ts)
         (fitted (leb (length ts) 4096 && leb (length bytes) 65535) (leb (length bytes) room) bytes) h
 
-pub write_trace_rest : (table : List ℕ) (K : ℕ) (out out' : List ℕ) (r : Written.Answer) → TraceWritten table K out out' r
+pub write_trace_rest : (table : List ℕ) (K : ℕ) (out out' : List ℕ) (r : Written) → TraceWritten table K out out' r
     → TraceRest out out' r
 write_trace_rest table K out out' r w h = (ap (λ a. a.length) w.answer ∙ ap length empty, w.buffer ∙ ap (λ bs. over bs out) empty)
   where
@@ -174,7 +173,7 @@ script_empty trace room = go (read_trace trace)
     go (Refused r o) h = refl
     go (Accepted head ts) h = let text = script_text head.inputs ts in roomy (leb (length text) room) text h
 
-pub write_script_rest : (trace out out' : List ℕ) (r : Exported.Answer) → ScriptWritten trace out out' r → ScriptRest out out' r
+pub write_script_rest : (trace out out' : List ℕ) (r : Written) → ScriptWritten trace out out' r → ScriptRest out out' r
 write_script_rest trace out out' r w h = (ap (λ a. a.length) w.answer ∙ ap length empty, w.buffer ∙ ap (λ bs. over bs out) empty)
   where
     empty : (script_answer trace (length out)).bytes ≡ []

@@ -7,11 +7,10 @@ use Rattle.table.specs.declared.Answer as Ran
 use Rattle.table.specs.Answer.{RunAnswered}
 use Rattle.trace.specs.declared.Answer as Judged
 use Rattle.trace.specs.Answer.{JudgeAnswered}
-use Rattle.unwind.specs.declared.Answer as Traced
+use Rattle.write.specs.declared.Written.{Written}
 use Rattle.unwind.specs.Answer.{TraceWritten}
 use Rattle.slice.specs.declared.Answer as Sliced
 use Rattle.slice.specs.Answer.{SliceWritten}
-use Rattle.script.specs.declared.Answer as Exported
 use Rattle.script.specs.Answer.{ScriptWritten}
 use Rattle.show.specs.declared.Answer as Shown
 use Rattle.show.specs.Answer.{SliceShown}
@@ -45,7 +44,7 @@ pub judge_determined : (trace words : List ℕ) (r r' : Judged.Answer) → Judge
 judge_determined trace words r r' h k = h.answer ∙ sym k.answer
 
 -- `write_trace`: the answer, and what the buffer `out` holds afterwards
-pub write_trace_determined : (table : List ℕ) (K : ℕ) (out o o' : List ℕ) (r r' : Traced.Answer)
+pub write_trace_determined : (table : List ℕ) (K : ℕ) (out o o' : List ℕ) (r r' : Written)
     → TraceWritten table K out o r → TraceWritten table K out o' r' → (r ≡ r') × (o ≡ o')
 write_trace_determined table K out o o' r r' h k = (h.answer ∙ sym k.answer, h.buffer ∙ sym k.buffer)
 
@@ -55,7 +54,7 @@ pub slice_trace_determined : (trace out o o' : List ℕ) (r r' : Sliced.Answer)
 slice_trace_determined trace out o o' r r' h k = (h.answer ∙ sym k.answer, h.buffer ∙ sym k.buffer)
 
 -- `write_script`: the answer, and what the buffer `out` holds afterwards
-pub write_script_determined : (trace out o o' : List ℕ) (r r' : Exported.Answer)
+pub write_script_determined : (trace out o o' : List ℕ) (r r' : Written)
     → ScriptWritten trace out o r → ScriptWritten trace out o' r' → (r ≡ r') × (o ≡ o')
 write_script_determined trace out o o' r r' h k = (h.answer ∙ sym k.answer, h.buffer ∙ sym k.buffer)
 

@@ -41,7 +41,7 @@ pub data Question : Type 0 where
 pub data Told : Type 0 where
   Ran : Rattle.table.specs.declared.Answer.Answer → Told
   Judged : Rattle.trace.specs.declared.Answer.Answer → Told
-  Wrote : (statements : ℕ) → Rattle.unwind.specs.declared.Answer.Answer → Told
+  Wrote : (statements : ℕ) → Rattle.write.specs.declared.Written.Written → Told
   Kept : (statements : ℕ) → Rattle.slice.specs.declared.Answer.Answer → Told
   Word : ℕ → Told
 

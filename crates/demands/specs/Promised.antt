@@ -5,11 +5,10 @@ use Rattle.std.specs.Prelude.{ℕ, ◌≤◌, ◌≡◌, ◌⊎◌, Bool, List, 
 use Rattle.expr.specs.declared.File.{File}
 use Rattle.expr.specs.Lists.{All}
 use Rattle.expr.specs.Number.{Byte}
-use Rattle.unwind.specs.declared.Answer as Written
+use Rattle.write.specs.declared.Written.{Written}
 use Rattle.unwind.specs.Answer.{trace_answer, TraceWritten}
 use Rattle.slice.specs.declared.Answer as Kept
 use Rattle.slice.specs.Answer.{slice_answer, SliceWritten}
-use Rattle.script.specs.declared.Answer as Exported
 use Rattle.script.specs.Answer.{script_answer, ScriptWritten}
 use Rattle.kadvitul.specs.Interface.{TraceNumber, TraceGives, SliceNumber, SliceGives, ScriptNumber, ScriptGives}
 use Rattle.demands.specs.Valuation.{Handed, ran_with, judged_with}
@@ -40,9 +39,9 @@ pub record Promised : Type 0 where
   -- demand 1: what a refusal leaves
   pub run-rest : (h : Handed) (t : List ℕ) (K : ℕ) (v : List ℕ) → RunRest (ran_with h t K v)
   pub judge-rest : (h : Handed) (t v : List ℕ) → JudgeRest (judged_with h t v)
-  pub trace_rest : (t : List ℕ) (K : ℕ) (out out' : List ℕ) (r : Written.Answer) → TraceWritten t K out out' r → TraceRest out out' r
+  pub trace_rest : (t : List ℕ) (K : ℕ) (out out' : List ℕ) (r : Written) → TraceWritten t K out out' r → TraceRest out out' r
   pub slice-rest : (t out out' : List ℕ) (r : Kept.Answer) → SliceWritten t out out' r → SliceRest out out' r
-  pub script_rest : (t out out' : List ℕ) (r : Exported.Answer) → ScriptWritten t out out' r → ScriptRest out out' r
+  pub script_rest : (t out out' : List ℕ) (r : Written) → ScriptWritten t out out' r → ScriptRest out out' r
   pub trace_gives_rest : (which : TraceNumber) (t : List ℕ) (K : ℕ) (out out' : List ℕ) (r : ℕ) → TraceGives which t K out out' r
       → TraceGivesRest (trace_answer t K (length out)) out out'
   pub slice_gives_rest : (which : SliceNumber) (t out out' : List ℕ) (r : ℕ) → SliceGives which t out out' r

@@ -3,11 +3,10 @@
 use Rattle.std.specs.Prelude.{◌≡◌, List, ℕ}
 use Rattle.table.specs.declared.Answer as Ran
 use Rattle.trace.specs.declared.Answer as Judged
-use Rattle.unwind.specs.declared.Answer as Written
+use Rattle.write.specs.declared.Written.{Written}
 use Rattle.unwind.specs.Answer.{Traced}
 use Rattle.slice.specs.declared.Answer as Kept
 use Rattle.slice.specs.Answer.{Sliced}
-use Rattle.script.specs.declared.Answer as Exported
 use Rattle.script.specs.Answer as Script
 use Rattle.kadvitul.specs.Interface.{TraceReply, TraceLength, trace_number, SliceReply, SliceLength, SliceMask, SliceInputs, slice_number}
 use Rattle.kadvitul.specs.Interface.{ScriptReply, ScriptLength, script_number}
@@ -23,7 +22,7 @@ pub record JudgeRest (a : Judged.Answer) : Type 0 where
   pub placeless : (a.verdict ≡ 1 → ⊥) → a.place ≡ 0
 
 -- `write_trace`, with its buffer before and after
-abbrev pub TraceRest : (out out' : List ℕ) → Written.Answer → Type 0
+abbrev pub TraceRest : (out out' : List ℕ) → Written → Type 0
 TraceRest out out' r = (r.reply ≡ 0 → ⊥) → (r.length ≡ 0) × (out' ≡ out)
 
 -- `slice_trace`, likewise
@@ -31,7 +30,7 @@ abbrev pub SliceRest : (out out' : List ℕ) → Kept.Answer → Type 0
 SliceRest out out' r = (r.reply ≡ 0 → ⊥) → (r.length ≡ 0) × (r.mask ≡ 0) × (r.inputs ≡ 0) × (out' ≡ out)
 
 -- `write_script`, likewise
-abbrev pub ScriptRest : (out out' : List ℕ) → Exported.Answer → Type 0
+abbrev pub ScriptRest : (out out' : List ℕ) → Written → Type 0
 ScriptRest out out' r = (r.reply ≡ 0 → ⊥) → (r.length ≡ 0) × (out' ≡ out)
 
 -- any call from C that writes a trace, a slice or a script, of which the calls give the numbers

@@ -1,10 +1,11 @@
 -- The laws of headers, frames and records: what an accepted file is, record after record from any offset.
 use Prim.Native.Nat.{ℕ, zero, suc, ◌+◌, ◌-◌, ◌≤◌, ◌<◌}
 use native.Mathlib.Omega.{arith}
-use Rattle.std.proofs.Common.{add-one, ap₂, ◌∙◌, subst, length-drop, drop_of_length-le, length-take-le, take_all, take-suc, drop-drop}
+use Rattle.std.proofs.Common.{ap₂, ◌∙◌, subst, length-drop, drop_of_length-le, length-take-le, take_all, drop-drop}
 use Rattle.std.proofs.Common.{drop-cons, get_or-drop, get_or-append-add}
 use Rattle.std.proofs.Math.Decide.{dec_lt}
 use Rattle.std.proofs.Math.Path.{◌≡◌, refl, sym, ap, fun_ext}
+use Rattle.std.specs.Prelude.{Some, None, Err}
 use Rattle.std.specs.Prelude.{Bool, ◌&&◌, length, take, drop, get_or, set, replicate}
 use Rattle.std.proofs.Math.Bool.{true, false, cond}
 use mathlib.Core.List.{List, [], ◌∷◌, ◌++◌}
@@ -24,8 +25,11 @@ use Rattle.expr.specs.Shown.{checked}
 use Rattle.expr.proofs.ExprLaws.{breaks-inside}
 use Rattle.expr.specs.Expr.{Parsed, Whole, Breaks, parse}
 use Rattle.expr.specs.Eval.{env_of}
-use Rattle.file.specs.Shown.{fault_at, fine, fault_of, expr_fault, one_more, read_count, reading_of, offsets_from, offsets_in}
-use Rattle.file.specs.declared.Fault.{Fault}
+use Rattle.file.specs.Shown.{frame_in, reply_of, fault_at, fine, fault_in, fault_of, expr_fault, one_more, read_count, reading_of}
+use Rattle.file.specs.Shown.{offsets_from, offsets_in}
+use Rattle.file.specs.declared.Reason.{Reason}
+use Rattle.file.specs.declared.Reason.TheVariants as R
+use Rattle.file.specs.declared.Refusal as Code
 use Rattle.file.specs.File.{Low, Chain, Head, head_size, input_room, inputs_limit, header_version, header_size, header_total, header_inputs}
 use Rattle.file.specs.File.{header_count}
 use Rattle.file.specs.File.{head_of, after_header, header_reply, header, Refusal, AtRecord, AtToken, Body, Good, Bad, field, rule}
@@ -62,6 +66,21 @@ module _ (bs : List ℕ) where
           let l = leb-true (2 + number_of 2 bs) (length bs) f in
           let p = frame-there l in
           record { inside = omega arith; is = sym p }
+
+  -- what the code's answer says of the length
+  pub frame_none : None ≡ frame_in bs → frame bs ≡ 0
+  frame_none e = go (eqb (frame bs) 0) refl e
+    where
+      go : (b : Bool) → eqb (frame bs) 0 ≡ b → None ≡ cond b None (Some (frame bs)) → frame bs ≡ 0
+      go true q e = eqb-true (frame bs) 0 q
+      go false q e = absurd (let z : ◌≡◌ {A = ℕ} 0 1 = cc in omega arith)
+
+  pub frame-some : (len : ℕ) → Some len ≡ frame_in bs → (len ≡ frame bs) × (len ≡ 0 → ⊥)
+  frame-some len e = go (eqb (frame bs) 0) refl e
+    where
+      go : (b : Bool) → eqb (frame bs) 0 ≡ b → Some len ≡ cond b None (Some (frame bs)) → (len ≡ frame bs) × (len ≡ 0 → ⊥)
+      go true q e = absurd (let z : ◌≡◌ {A = ℕ} 0 1 = cc in omega arith)
+      go false q e = let z : len ≡ frame bs = cc in (z, λ w. eqb-false (frame bs) 0 q (sym z ∙ w))
 
 -- ---- one record, and those after it
 
@@ -105,6 +124,20 @@ module _ {A : Type 0} (one : List ℕ → Body A) (s : List ℕ) (at len : ℕ) 
 
 -- ---- replies
 
+-- no refusal is a 0
+pub reply-some : (reason : Reason) → 0 < reply_of reason
+reply-some R.Short = omega arith
+reply-some R.Version = omega arith
+reply-some R.Length = omega arith
+reply-some R.TooMany = omega arith
+reply-some R.Record = omega arith
+reply-some R.Rule = omega arith
+reply-some R.Expression = omega arith
+reply-some R.HighBound = omega arith
+reply-some R.LongTrace = omega arith
+reply-some R.ShortBuffer = omega arith
+reply-some R.Valuation = omega arith
+
 module _ {A : Type 0} where
   pub holding-low : (f : List Token → A) (p : Parsed) → Low (holding f p)
   holding-low f (Whole e) = tt
@@ -114,22 +147,22 @@ module _ {A : Type 0} where
   cond-low true x y h k = h
   cond-low false x y h k = k
 
-  -- a reply that is not 0 is a refusal's; one that is 0 is a thing's
-  pub fault_bad : (len : ℕ) (x : Body A) (f : Fault) → f ≡ fault_of len x → (f.reply ≡ 0 → ⊥)
-      → (r : Refusal) × (x ≡ Bad r) × (f ≡ fault_at len r)
-  fault_bad len (Good a) f e h = absurd (h (ap (λ f. f.reply) e))
-  fault_bad len (Bad r) f e h = (r, refl, e)
+  -- what the code refuses is refused, and it points into the record, or at its end
+  pub fault_bad : (len : ℕ) (x : Body A) (f : Code.Refusal) → fault_in (Err f) ≡ fault_of len x
+      → (r : Refusal) × (x ≡ Bad r) × (fault_in (Err f) ≡ fault_at len r)
+  fault_bad len (Good a) f e = absurd (omega (arith, ap (λ f. f.reply) e, reply-some f.reason))
+  fault_bad len (Bad r) f e = (r, refl, e)
 
-  -- and points into the record, or at its end
-  pub fault_inside : (len : ℕ) (x : Body A) (f : Fault) → f ≡ fault_of len x → f.from ≤ 2 + len
+  pub fault_inside : (len : ℕ) (x : Body A) (f : Code.Refusal) → fault_in (Err f) ≡ fault_of len x → f.offset ≤ 2 + len
   fault_inside len (Good a) f e = omega (arith, ap (λ f. f.from) e)
   fault_inside len (Bad (AtRecord r)) f e = omega (arith, ap (λ f. f.from) e)
   fault_inside len (Bad (AtToken left)) f e = omega (arith, ap (λ f. f.from) e)
 
-  pub fault_good : (len : ℕ) (x : Body A) (f : Fault) → Low x → f ≡ fault_of len x → f.reply ≡ 0 → (a : A) × (x ≡ Good a)
-  fault_good len (Good a) f l e h = (a, refl)
-  fault_good len (Bad (AtRecord q)) f l e h = absurd (let k : 5 ≤ q = l.0 in omega (arith, ap (λ f. f.reply) e))
-  fault_good len (Bad (AtToken left)) f l e h = absurd (omega (arith, ap (λ f. f.reply) e))
+  -- what it lets through is a thing
+  pub fault_good : (len : ℕ) (x : Body A) → Low x → fine ≡ fault_of len x → (a : A) × (x ≡ Good a)
+  fault_good len (Good a) l e = (a, refl)
+  fault_good len (Bad (AtRecord q)) l e = absurd (let k : 5 ≤ q = l.0 in omega (arith, ap (λ f. f.reply) e))
+  fault_good len (Bad (AtToken left)) l e = absurd (omega (arith, ap (λ f. f.reply) e))
 
   record-low : (one : List ℕ → Body A) → ((bs : List ℕ) → Low (one bs)) → (bs : List ℕ) → Low (record_of one bs)
   unfolding record_of
@@ -240,6 +273,10 @@ module _ {A St : Type 0} (one : St → List ℕ → Body A) (next : St → A →
   pub records-spare : at < length s → records one next 0 σ (drop at s) ≡ Stop 5 (drop at s)
   unfolding records
   records-spare h = ap (records one next 0 σ) (drop-cons s at 0 h) ∙ ap {B = Records A} (Stop 5) (sym (drop-cons s at 0 h))
+
+pub reading_count : {A : Type 0} (total count : ℕ) (p : Records A) → (reading_of total count p).count ≡ count
+reading_count total count (Read xs) = refl
+reading_count total count (Stop r bs) = refl
 
 pub reading_before : {A : Type 0} (total count : ℕ) (a : A) (p : Records A) → reading_of total count (before a p) ≡ reading_of total count p
 reading_before total count a (Read xs) = refl
@@ -522,13 +559,6 @@ sets_at xs vs k h l =
     ∙ get_or-append vs (drop (0 + length vs) xs) 0 k l
 
 -- ---- words at the front of zeros
-
-pub copy_next : (xs ws : List ℕ) (s : ℕ) → s < length ws → set (sets xs 0 (take s ws)) s (get_or ws s 0) ≡ sets xs 0 (take (s + 1) ws)
-copy_next xs ws s h =
-    ap (λ k. set (sets xs 0 (take s ws)) k (get_or ws s 0))
-    (let e : s ≡ 0 + length (take s ws) = omega (arith, length-take-le s ws (omega arith)) in e)
-    ∙ sym (sets_snoc xs 0 (take s ws) (get_or ws s 0))
-    ∙ sym (ap (sets xs 0) (ap (λ n. take n ws) (add-one s) ∙ take-suc ws s 0 h))
 
 pub same_everywhere : {A : Type 0} (n : ℕ) (a : A) (x : ℕ) → get_or (replicate n a) x a ≡ a
 same_everywhere {A} n a x =

@@ -4,3 +4,5 @@ pub mod ReadingLaws
 pub mod RecordLaws
 pub mod WalkLaws
 pub mod WordsLaws
+pub mod Turns
+pub mod CutLaws

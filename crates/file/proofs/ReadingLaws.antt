@@ -12,13 +12,17 @@ use Rattle.expr.specs.NumberLaws.{number_lt}
 use Rattle.file.specs.File.{Head, header_version, header_size, header_total, header_count, head_of, after_header, header_reply, Body}
 use Rattle.file.specs.File.{Records, Read, Stop}
 use Rattle.file.specs.File.{records, Input, Accepted, Refused, finish, read_file}
-use Rattle.file.specs.Shown.{read_count, reading_of, offsets_from, offsets_in, ReadRecords, is_accepted, listed, file_reading, file_count}
+use Rattle.std.specs.Prelude.{Result, Ok, Err}
+use Rattle.file.specs.Shown.{reply_of, read_count, reading_of, reading_in, offsets_from, offsets_in, ReadRecords, is_accepted, listed}
+use Rattle.file.specs.Shown.{file_reading, file_count}
 use Rattle.file.specs.Shown.{ReadFile, Ready}
-use Rattle.file.proofs.FileLaws.{head-short, reading_offset, records-chain, count-all, Header, header_is, file-refused, file-read}
+use Rattle.file.proofs.FileLaws.{reply-some, head-short, reading_offset, records-chain, count-all, Header, header_is, file-refused}
+use Rattle.file.proofs.FileLaws.{file-read}
 use Rattle.file.specs.File.{Low}
 use Rattle.file.proofs.FileLaws.{file-is}
 use Rattle.file.proofs.FileLaws.{file-refused-low, offsets_length, sets_at}
-use Rattle.file.specs.declared.Reading.{Reading}
+use Rattle.file.specs.declared.Reason.{Reason}
+use Rattle.file.specs.declared.Refusal as Code
 
 pub total-small : (s : List ℕ) → All Byte s → header_total s < 65536
 total-small s o = number_lt 2 (drop 1 s) (all_drop Byte 1 s o)
@@ -37,14 +41,13 @@ too_long known limit s o h =
       ne_eqb (header_total s) (length s) (λ e. omega (arith, total-small s o)),
     )
 
--- a reply is the file's
-pub reply_refuses : {A : Type 0} {file : Input A} {count : ℕ} {s off off' : List ℕ} {r : Reading} → ReadFile file count s off off' r
-    → (r.reply ≡ 0 → ⊥)
-    → file ≡ Refused r.reply r.offset
-reply_refuses {A} {file} {count} {r = r} w h = go file refl w.answer
+-- a refusal is the file's
+pub refuses : {A : Type 0} {file : Input A} {count : ℕ} {s off off' : List ℕ} {f : Code.Refusal} → ReadFile file count s off off' (Err f)
+    → file ≡ Refused (reply_of f.reason) f.offset
+refuses {A} {file} {count} {f = f} w = go file refl w.answer
   where
-    go : (x : Input A) → file ≡ x → r ≡ file_reading count x → file ≡ Refused r.reply r.offset
-    go (Accepted head xs) e q = absurd (h (ap (λ r. r.reply) q))
+    go : (x : Input A) → file ≡ x → reading_in count (Err f) ≡ file_reading count x → file ≡ Refused (reply_of f.reason) f.offset
+    go (Accepted head xs) e q = absurd (omega (arith, ap (λ r. r.reply) q, reply-some f.reason))
     go (Refused k at) e q = e ∙ sym (ap₂ {C = Input A} Refused (ap (λ r. r.reply) q) (ap (λ r. r.offset) q))
 
 module _ {A St : Type 0} (known : ℕ → Bool) (limit : ℕ) (one : (head : Head) (n : ℕ) → St → List ℕ → Body A) (next : St → A → St)
@@ -79,50 +82,48 @@ module _ {A St : Type 0} (known : ℕ → Bool) (limit : ℕ) (one : (head : Hea
 
   -- ---- the ways to a reading: the header refuses, or the records are read
 
-  pub header_read : (r : ℕ) → r ≡ header_reply known limit s → (r ≡ 0 → ⊥) → (off : List ℕ)
-      → ReadFile file count s off off (record { reply = r; offset = 0; count = 0 })
+  pub header_read : (reason : Reason) → reply_of reason ≡ header_reply known limit s → (off : List ℕ)
+      → ReadFile file count s off off (Err (record { reason = reason; offset = 0 }))
   unfolding offsets_from
-  header_read r e h off =
-      let none : count ≡ 0 = ap (λ x. cond (eqb x 0) counted 0) (sym e) ∙ ap (λ b. cond b counted 0) (ne_eqb r 0 h) in
+  header_read reason e off =
+      let h : reply_of reason ≡ 0 → ⊥ = λ z. omega (arith, reply-some reason) in
+      let none : count ≡ 0 = ap (λ x. cond (eqb x 0) counted 0) (sym e) ∙ ap (λ b. cond b counted 0) (ne_eqb (reply_of reason) 0 h) in
       record {
-        answer = sym (ap₂ (λ c x. file_reading c x) none (file-refused known limit body s r (sym e) h));
+        answer = sym (ap (file_reading count) (file-refused known limit body s (reply_of reason) (sym e) h));
         stored = sym (ap (λ c. sets off 0 (offsets_in c s)) none);
       }
 
-  module _ (right : header_reply known limit s ≡ 0) {off off' : List ℕ} {r : Reading} where
+  module _ (right : header_reply known limit s ≡ 0) {off off' : List ℕ} {r : Result ℕ Code.Refusal} where
     pub records-read : ReadRecords (one head n) next s n (first head) off off' r → ReadFile file count s off off' r
-    records-read w =
-        let answer : r ≡ file_reading count file
-        = w.answer ∙ as_file counted all ∙ sym (ap₂ (λ c x. file_reading c x) (count-is right) (file-read known limit body s right)) in
-        record {
-          answer = answer;
-          stored = w.stored ∙ ap (λ c. sets off 0 (offsets_in c s)) (ap (λ r. r.count) answer
-              ∙ kept file);
-        }
-      where
-        kept : (x : Input A) → (file_reading count x).count ≡ count
-        kept (Accepted head xs) = refl
-        kept (Refused k at) = refl
+    records-read w = record {
+      answer =
+          ap (λ c. reading_in c r) (count-is right)
+          ∙ w.answer
+          ∙ as_file counted all
+          ∙ sym (ap₂ (λ c x. file_reading c x) (count-is right) (file-read known limit body s right));
+      stored = w.stored ∙ ap (λ c. sets off 0 (offsets_in c s)) (sym (count-is right));
+    }
 
   -- ---- what a reading says
 
-  module _ {off off' : List ℕ} {r : Reading} (w : ReadFile file count s off off' r) where
-    pub offset-small : All Byte s → r.offset < 65536
-    offset-small o = go (eqb (header_reply known limit s) 0) refl
-      where
-        go : (b : Bool) → eqb (header_reply known limit s) 0 ≡ b → r.offset < 65536
-        go true e =
-            let h = eqb-true (header_reply known limit s) 0 e in
-            let q : r ≡ reading_of (length s) count all = w.answer ∙ ap (file_reading count) (file-read known limit body s h)
-            ∙ sym (as_file count all) in
-            omega (arith, ap (λ r. r.offset) q, reading_offset (length s) count all, short known limit s o h)
-        go false e =
-            let h : header_reply known limit s ≡ 0 → ⊥ = eqb-false (header_reply known limit s) 0 e in
-            let q : r.offset ≡ 0 = ap (λ r. r.offset)
-            (w.answer ∙ ap (file_reading count) (file-refused known limit body s (header_reply known limit s) refl h)) in
-            omega arith
+  pub offset-small : {off off' : List ℕ} {f : Code.Refusal} → ReadFile file count s off off' (Err f) → All Byte s → f.offset < 65536
+  offset-small {f = f} w o = go (eqb (header_reply known limit s) 0) refl
+    where
+      go : (b : Bool) → eqb (header_reply known limit s) 0 ≡ b → f.offset < 65536
+      go true e =
+          let h = eqb-true (header_reply known limit s) 0 e in
+          let q : reading_in count (Err f) ≡ reading_of (length s) count all = w.answer
+          ∙ ap (file_reading count) (file-read known limit body s h)
+          ∙ sym (as_file count all) in
+          omega (arith, ap (λ r. r.offset) q, reading_offset (length s) count all, short known limit s o h)
+      go false e =
+          let h : header_reply known limit s ≡ 0 → ⊥ = eqb-false (header_reply known limit s) 0 e in
+          let q : f.offset ≡ 0 = ap (λ r. r.offset)
+          (w.answer ∙ ap (file_reading count) (file-refused known limit body s (header_reply known limit s) refl h)) in
+          omega arith
 
-    module _ (low : (head : Head) (n : ℕ) (σ : St) (bs : List ℕ) → Low (one head n σ bs)) (h : r.reply ≡ 0) where
+  module _ {off off' : List ℕ} {m : ℕ} (w : ReadFile file count s off off' (Ok m)) where
+    module _ (low : (head : Head) (n : ℕ) (σ : St) (bs : List ℕ) → Low (one head n σ bs)) where
       record Accepts : Type 0 where
         things : List A
         is : file ≡ Accepted head things
@@ -132,9 +133,9 @@ module _ {A St : Type 0} (known : ℕ → Bool) (limit : ℕ) (one : (head : Hea
       accepts : Accepts
       accepts = go file refl w.answer
         where
-          go : (x : Input A) → file ≡ x → r ≡ file_reading count x → Accepts
+          go : (x : Input A) → file ≡ x → reading_in count (Ok m) ≡ file_reading count x → Accepts
           go (Refused k at) e q =
-              absurd (let z : r.reply ≡ k = ap (λ r. r.reply) q in
+              absurd (let z : 0 ≡ k = ap (λ r. r.reply) q in
               omega (arith, file-refused-low known limit one next first low s k at e))
           go (Accepted other xs) e q =
               let f = file-is known limit body s other xs e in
@@ -147,7 +148,7 @@ module _ {A St : Type 0} (known : ℕ → Bool) (limit : ℕ) (one : (head : Hea
                 many = (records-chain (one head n) next s (λ σ a. Unit {0}) (λ σ l m a q. tt) n (header_size s) (first head) xs g).1;
               }
 
-      reads_all : r.count ≡ header_count s
+      reads_all : m ≡ header_count s
       reads_all = ap (λ r. r.count) (w.answer ∙ ap (file_reading count) accepts.is) ∙ accepts.complete
 
       pub is-accepted : file ≡ Accepted (head_of s) (listed file)
@@ -159,17 +160,17 @@ module _ {A St : Type 0} (known : ℕ → Bool) (limit : ℕ) (one : (head : Hea
       pub many : length (listed file) ≡ header_count s
       many = ap (λ x. length (listed x)) accepts.is ∙ accepts.many
 
-      pub is-ready : limit ≤ length off → Ready file s off' r.count
+      pub is-ready : limit ≤ length off → Ready file s off' m
       is-ready l =
-          let stored : off' ≡ sets off 0 (offsets_in r.count s)
+          let stored : off' ≡ sets off 0 (offsets_in m s)
           = w.stored ∙ ap (λ c. sets off 0 (offsets_in c s)) (accepts.complete ∙ sym reads_all) in
-          let long = offsets_length r.count (header_size s) (after_header s) in
+          let long = offsets_length m (header_size s) (after_header s) in
           let few = right-header.count in
           record {
             accepted = ap is_accepted accepts.is;
             count = reads_all;
-            room = omega (arith, ap length stored, length-sets off 0 (offsets_in r.count s), reads_all);
+            room = omega (arith, ap length stored, length-sets off 0 (offsets_in m s), reads_all);
             stored =
-                λ i k. ap (λ o. get_or o i 0) stored ∙ sets_at off (offsets_in r.count s) i (omega (arith, reads_all))
+                λ i k. ap (λ o. get_or o i 0) stored ∙ sets_at off (offsets_in m s) i (omega (arith, reads_all))
                 (omega arith);
           }

@@ -7,18 +7,29 @@ use Rattle.std.proofs.Common.{◌∙◌, length-drop}
 use Rattle.std.proofs.lemmas.List.Edits.{sets}
 use Rattle.std.proofs.Math.Seq.{length-sets}
 use Rattle.file.specs.File.{header_size, after_header, Refusal, Body, Good, Bad, frame, Records, Read, Stop, record_of, records}
-use Rattle.file.specs.Shown.{fault_at, read_count, reading_of, offsets_from, offsets_in, ReadRecords}
-use Rattle.file.proofs.FileLaws.{reading_before, records-good, records_bad, count-good, count_bad, records-end, records-spare}
+use Rattle.std.specs.Prelude.{Result, Ok, Err}
+use Rattle.file.specs.Shown.{Reading, reply_of, fault_at, fault_in, read_count, reading_of, offsets_from, offsets_in}
+use Rattle.file.specs.Shown.{ReadRecords}
+use Rattle.file.proofs.FileLaws.{reading_count, reading_before, records-good, records_bad, count-good, count_bad, records-end}
+use Rattle.file.proofs.FileLaws.{records-spare}
 use Rattle.file.proofs.FileLaws.{offsets_length, Reached, reached-start, reached-next, reached-on, sets_snoc}
-use Rattle.file.specs.declared.Reading.{Reading}
-use Rattle.file.specs.declared.Fault.{Fault}
+use Rattle.file.specs.declared.Reason.{Reason}
+use Rattle.file.specs.declared.Reason.TheVariants as R
+use Rattle.file.specs.declared.Refusal as Code
 
 module _ {A St : Type 0} (one : St → List ℕ → Body A) (next : St → A → St) (s : List ℕ) (n : ℕ) (σ₀ : St) (off₀ : List ℕ) where
   -- the answer's reading of c records from an offset on, with k before them
   abbrev from : (k c : ℕ) → St → (at : ℕ) → Reading
   from k c σ at = reading_of (length s) (k + read_count one next c σ (drop at s)) (records one next c σ (drop at s))
 
-  abbrev Done : (off : List ℕ) (r : Reading) → Type 0
+  abbrev whole : Records A
+  whole = records one next n σ₀ (after_header s)
+
+  -- how many are read
+  abbrev count : ℕ
+  count = read_count one next n σ₀ (after_header s)
+
+  abbrev Done : (off : List ℕ) (r : Result ℕ Code.Refusal) → Type 0
   Done off r = ReadRecords one next s n σ₀ off₀ off r
 
   pub record Walking (off : List ℕ) (at k : ℕ) (σ : St) : Type 0 where
@@ -52,30 +63,38 @@ module _ {A St : Type 0} (one : St → List ℕ → Body A) (next : St → A →
     offset : length s - length (drop at s) ≡ at
     offset = omega (arith, length-drop at s, w.inside)
 
+    -- a refusal after the first k records
+    refused : (reason : Reason) (place : ℕ) → record { reply = reply_of reason; offset = place; count = k }
+        ≡ reading_of (length s) count whole
+        → Done off (Err (record { reason = reason; offset = place }))
+    refused reason place e =
+        let all : k ≡ count = ap (λ r. r.count) e ∙ reading_count (length s) count whole in
+        record {
+          answer = ap (λ c. record { reply = reply_of reason; offset = place; count = c }) (sym all) ∙ e;
+          stored = w.stored ∙ ap (λ c. sets off₀ 0 (offsets_in c s)) all;
+        }
+
     module _ (h : k < n) where
       pub left : n - k ≡ suc (n - (k + 1))
       left = omega arith
 
       -- with the code's own length of the record, what it finds wrong there, and the place of that
-      pub refuse : {len place : ℕ} {f : Fault} (r : Refusal) → record_of (one σ) (drop at s) ≡ Bad r → len ≡ frame (drop at s)
-          → f ≡ fault_at len r → place ≡ at + f.from → place ≤ length s
-          → Done off (record { reply = f.reply; offset = place; count = k })
+      pub refuse : {len place : ℕ} {f : Code.Refusal} (r : Refusal) → record_of (one σ) (drop at s) ≡ Bad r → len ≡ frame (drop at s)
+          → fault_in (Err f) ≡ fault_at len r → place ≡ at + f.offset → place ≤ length s
+          → Done off (Err (record { reason = f.reason; offset = place }))
       refuse {len} {place} {f} r e le is there inside =
           let c = n - (k + 1) in
           let g = fault_at (frame (drop at s)) r in
-          let same : f ≡ g = is ∙ ap (λ l. fault_at l r) le in
+          let same : fault_in (Err f) ≡ g = is ∙ ap (λ l. fault_at l r) le in
           let start : place ≡ at + g.from = there ∙ ap (λ f. at + f.from) same in
           let found : length s - length (drop (at + g.from) s) ≡ place = omega (arith, length-drop (at + g.from) s) in
-          record {
-            answer =
-                sym (
-                ap (λ c. from k c σ at) left
-                ∙ ap₂ (λ c p. reading_of (length s) (k + c) p) (count_bad one next s at c σ r e) (records_bad one next s at c σ r e)
-                ∙ ap₂ (λ o c. record { reply = g.reply; offset = o; count = c }) found (let z : k + 0 ≡ k = omega arith in z)
-                ∙ ap (λ f. record { reply = f.reply; offset = place; count = k }) (sym same))
-                ∙ w.same;
-            stored = w.stored;
-          }
+          refused f.reason place (
+          sym (
+          ap (λ c. from k c σ at) left
+          ∙ ap₂ (λ c p. reading_of (length s) (k + c) p) (count_bad one next s at c σ r e) (records_bad one next s at c σ r e)
+          ∙ ap₂ (λ o c. record { reply = g.reply; offset = o; count = c }) found (let z : k + 0 ≡ k = omega arith in z)
+          ∙ ap (λ f. record { reply = f.reply; offset = place; count = k }) (sym same))
+          ∙ w.same)
 
       -- with the code's own length of the record
       pub on : (x : A) → record_of (one σ) (drop at s) ≡ Good x → (len : ℕ) → len ≡ frame (drop at s) → at + (2 + len) ≤ length s
@@ -114,18 +133,19 @@ module _ {A St : Type 0} (one : St → List ℕ → Body A) (next : St → A →
           sym (ap₂ (λ j c. from j c σ at) all (let z : n - k ≡ 0 = omega arith in z) ∙ ap (reading_of (length s) (n + 0)) e)
           ∙ w.same
 
-      pub done : at ≡ length s → Done off (record { reply = 0; offset = 0; count = n })
-      done e = record {
-        answer =
-            ap (λ c. record { reply = 0; offset = 0; count = c }) (let z : n ≡ n + 0 = omega arith in z)
-            ∙ ended (Read []) (records-end one next s at σ (omega arith));
-        stored = w.stored ∙ ap (λ c. sets off₀ 0 (offsets_in c s)) all;
-      }
+      pub done : at ≡ length s → Done off (Ok n)
+      done e =
+          let told : record { reply = 0; offset = 0; count = n } ≡ reading_of (length s) count whole
+          = ap (λ c. record { reply = 0; offset = 0; count = c }) (let z : n ≡ n + 0 = omega arith in z)
+          ∙ ended (Read []) (records-end one next s at σ (omega arith)) in
+          record {
+            answer = told;
+            stored = w.stored
+                ∙ ap (λ c. sets off₀ 0 (offsets_in c s)) (all ∙ ap (λ r. r.count) told ∙ reading_count (length s) count whole);
+          }
 
-      pub spare : (at ≡ length s → ⊥) → Done off (record { reply = 5; offset = at; count = n })
-      spare e = record {
-        answer =
-            ap₂ (λ o c. record { reply = 5; offset = o; count = c }) (sym offset) (let z : n ≡ n + 0 = omega arith in z)
-            ∙ ended (Stop 5 (drop at s)) (records-spare one next s at σ (omega (arith, e, w.inside)));
-        stored = w.stored ∙ ap (λ c. sets off₀ 0 (offsets_in c s)) all;
-      }
+      pub spare : (at ≡ length s → ⊥) → Done off (Err (record { reason = R.Record; offset = at }))
+      spare e =
+          refused R.Record at (
+          ap₂ (λ o c. record { reply = 5; offset = o; count = c }) (sym offset) (let z : k ≡ n + 0 = omega (arith, all) in z)
+          ∙ ended (Stop 5 (drop at s)) (records-spare one next s at σ (omega (arith, e, w.inside))))

@@ -1,9 +1,20 @@
 -- Document 01, "Running a table under bound K" and judging: how a run, or the judging of a trace, ends.
 use Rattle.std.specs.Prelude.{ℕ, Bool, true, false}
+use Rattle.file.specs.declared.Kind as Declared
+use Rattle.file.specs.declared.Kind.TheVariants as K
 
 -- what a test is for: an assumption, what must hold, the bound on back jumps
-pub data Kind : Type 0 where
-  Assume Assert Bound : Kind
+abbrev pub Kind : Type 0
+Kind = Declared.Kind
+
+pattern abbrev pub Assume : Kind
+Assume = K.Assume
+
+pattern abbrev pub Assert : Kind
+Assert = K.Assert
+
+pattern abbrev pub Bound : Kind
+Bound = K.Bound
 
 -- past the end, or at a place where a test is false. `Lost` is a run that has used up its fuel: none does (`run-never_lost`)
 pub data Outcome : Type 0 where

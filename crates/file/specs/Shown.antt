@@ -1,15 +1,54 @@
 -- What the code's values mean: its answers as functions of the definitions.
 use Rattle.std.specs.Prelude.{ℕ, zero, suc, ◌+◌, ◌-◌, ◌≤◌, ◌<◌, ◌≡◌, Bool, true, false, cond, List, [], ◌∷◌, length, take, drop, get_or}
-use Rattle.std.specs.Prelude.{eqb}
+use Rattle.std.specs.Prelude.{eqb, Option, Some, None, Result, Ok, Err}
 use Rattle.std.proofs.lemmas.List.Edits.{sets}
 use Rattle.expr.specs.Number.{number_of}
 use Rattle.expr.specs.Expr.{Parsed, Whole, Breaks}
-use Rattle.file.specs.Outcome.{Kind, Assume, Assert}
+use Rattle.file.specs.Outcome.{Kind, Assume, Assert, Outcome, Ended, Failed}
 use Rattle.file.specs.File.{Head, header_size, header_count, head_of, after_header, header_reply, Refusal, AtRecord, AtToken, Body, Good}
 use Rattle.file.specs.File.{Bad, frame, record_of}
 use Rattle.file.specs.File.{Records, Read, Stop, records, Input, Accepted, Refused}
-use Rattle.file.specs.declared.Reading.{Reading}
-use Rattle.file.specs.declared.Fault.{Fault}
+use Rattle.file.specs.declared.Reason.{Reason}
+use Rattle.file.specs.declared.Reason.TheVariants as R
+use Rattle.file.specs.declared.Refusal as Code
+use Rattle.file.specs.declared.Failure.{Failure}
+
+-- ---- refusals, as numbers
+
+-- the reply of a reason
+abbrev pub reply_of : Reason → ℕ
+reply_of R.Short = 1
+reply_of R.Version = 2
+reply_of R.Length = 3
+reply_of R.TooMany = 4
+reply_of R.Record = 5
+reply_of R.Rule = 6
+reply_of R.Expression = 7
+reply_of R.HighBound = 8
+reply_of R.LongTrace = 9
+reply_of R.ShortBuffer = 10
+reply_of R.Valuation = 11
+
+-- of a header: 0 where it is right
+abbrev pub first_reply : Result (Unit {0}) Reason → ℕ
+first_reply (Ok u) = 0
+first_reply (Err reason) = reply_of reason
+
+-- the length of the record that the bytes begin with, if it is there
+abbrev pub frame_in : List ℕ → Option ℕ
+frame_in bs = cond (eqb (frame bs) 0) None (Some (frame bs))
+
+-- what is wrong with a record: a reply, 0 for nothing, and the byte that it points at, counted from the record's first
+pub record Fault : Type 0 where
+  pub reply : ℕ
+  pub from : ℕ
+
+-- how far the records of a file are read: a reply with its offset, 0 if all are there and nothing after them; and the number of records
+-- that are read before it
+pub record Reading : Type 0 where
+  pub reply : ℕ
+  pub offset : ℕ
+  pub count : ℕ
 
 -- what the code says of a refusal, in a record of `len` bytes after its length
 abbrev pub fault_at : (len : ℕ) → Refusal → Fault
@@ -19,6 +58,11 @@ fault_at len (AtToken left) = record { reply = 7; from = 2 + len - left }
 -- no fault
 abbrev pub fine : Fault
 fine = record { reply = 0; from = 0 }
+
+-- what the code's answer says of a record
+abbrev pub fault_in : Result (Unit {0}) Code.Refusal → Fault
+fault_in (Ok u) = fine
+fault_in (Err f) = record { reply = reply_of f.reason; from = f.offset }
 
 abbrev pub fault_of : {A : Type 0} → (len : ℕ) → Body A → Fault
 fault_of len (Good a) = fine
@@ -32,6 +76,11 @@ is_good (Bad r) = false
 abbrev pub expr_fault : (len : ℕ) → Parsed → Fault
 expr_fault len (Whole e) = fine
 expr_fault len (Breaks bs) = fault_at len (AtToken (length bs))
+
+-- how a run, or the judging of a trace, ends
+abbrev pub outcome_of : Result (Unit {0}) Failure → Outcome
+outcome_of (Ok u) = Ended
+outcome_of (Err f) = Failed f.kind f.place
 
 -- a test's kind by its code
 abbrev pub kind_of : (code : ℕ) → Kind
@@ -52,6 +101,11 @@ offsets_from (suc c) at bs = at ∷ offsets_from c (at + (2 + frame bs)) (drop (
 abbrev pub offsets_in : (c : ℕ) (s : List ℕ) → List ℕ
 offsets_in c s = offsets_from c (header_size s) (after_header s)
 
+-- what the code's answer says of a file's records: it counts them where all are read, and `count` are read where they are refused
+abbrev pub reading_in : (count : ℕ) → Result ℕ Code.Refusal → Reading
+reading_in count (Ok n) = record { reply = 0; offset = 0; count = n }
+reading_in count (Err f) = record { reply = reply_of f.reason; offset = f.offset; count = count }
+
 -- in a file of `total` bytes, with `count` records read
 abbrev pub reading_of : {A : Type 0} → (total count : ℕ) → Records A → Reading
 reading_of total count (Read xs) = record { reply = 0; offset = 0; count = count }
@@ -68,9 +122,10 @@ module _ {A St : Type 0} (one : St → List ℕ → Body A) (next : St → A →
   read_count (suc c) σ bs = one_more (record_of (one σ) bs) (λ a. read_count c (next σ a) (drop (2 + frame bs) bs))
 
   -- the reading of the n records after a header, with the offsets of those that are read stored
-  pub record ReadRecords (s : List ℕ) (n : ℕ) (σ : St) (before after : List ℕ) (r : Reading) : Type 0 where
-    pub answer : r ≡ reading_of (length s) (read_count n σ (after_header s)) (records one next n σ (after_header s))
-    pub stored : after ≡ sets before 0 (offsets_in r.count s)
+  pub record ReadRecords (s : List ℕ) (n : ℕ) (σ : St) (before after : List ℕ) (r : Result ℕ Code.Refusal) : Type 0 where
+    pub answer : reading_in (read_count n σ (after_header s)) r
+        ≡ reading_of (length s) (read_count n σ (after_header s)) (records one next n σ (after_header s))
+    pub stored : after ≡ sets before 0 (offsets_in (read_count n σ (after_header s)) s)
 
 -- ---- a whole file
 
@@ -95,8 +150,8 @@ file_count known limit one next first s =
     (read_count (one (head_of s) (header_count s)) next (header_count s) (first (head_of s)) (after_header s)) 0
 
 -- the reading of a file, with the offsets of the records that are read stored
-pub record ReadFile {A : Type 0} (file : Input A) (count : ℕ) (s before after : List ℕ) (r : Reading) : Type 0 where
-  pub answer : r ≡ file_reading count file
+pub record ReadFile {A : Type 0} (file : Input A) (count : ℕ) (s before after : List ℕ) (r : Result ℕ Code.Refusal) : Type 0 where
+  pub answer : reading_in count r ≡ file_reading count file
   pub stored : after ≡ sets before 0 (offsets_in count s)
 
 -- a file that is accepted, with its n records' offsets stored

@@ -1,31 +1,110 @@
 // What tables and traces share: the header and the framing of records (document 01, "Table and trace bytes").
 #![tactic(auto)]
 
-ghost use Rattle.std.specs.Prelude.{◌≡◌, ◌+◌, ◌*◌, ◌≤◌, ◌<◌, length, drop};
+pub mod records;
+
+ghost use Rattle.std.specs.Prelude.{◌≡◌, ◌+◌, ◌*◌, ◌^◌, ◌≤◌, ◌<◌, length, drop};
 ghost use Rattle.std.proofs.lemmas.List.Edits.{sets};
 ghost use Rattle.expr.specs.Number.{number_of};
 ghost use Rattle.expr.specs.Expr.{readable, parse};
 ghost use Rattle.file.specs.File.{head_size, inputs_limit, header_version, header_size, header_total, header_inputs, header_count};
 ghost use Rattle.file.specs.File.{header_reply, frame};
+ghost use Rattle.file.specs.Outcome.{Failed, verdict, place_of};
 ghost use Rattle.file.specs.Words.{words_of};
-ghost use Rattle.file.specs.Shown.{expr_fault, rest_of};
+ghost use Rattle.file.specs.Shown.{reply_of, first_reply, frame_in, fault_in, expr_fault, rest_of};
 
 use expr::{File, accept, number};
 
-// How far the records of a file were read: a reply with its offset, 0 if all are there and nothing after them; and the number of records
-// that were read before it.
-#[derive(Clone, Copy)]
-pub struct Reading {
-    pub reply: u8,
-    pub offset: usize,
-    pub count: usize,
+// Why bytes, or what a caller gave with them, are refused: the numbered replies of document 01.
+#[derive(Clone, Copy, PartialEq, Eq)]
+pub enum Reason {
+    Short = 1,
+    Version = 2,
+    Length = 3,
+    TooMany = 4,
+    Record = 5,
+    Rule = 6,
+    Expression = 7,
+    HighBound = 8,
+    LongTrace = 9,
+    ShortBuffer = 10,
+    Valuation = 11,
 }
 
-// What is wrong with a record: a reply, 0 for nothing, and the byte that it points at, counted from the record's first.
-#[derive(Clone, Copy)]
-pub struct Fault {
-    pub reply: u8,
-    pub from: usize,
+impl From<Reason> for u32 {
+    ghost from_gives = { λ reason reply. reply ≡ reply_of reason };
+
+    fn from(reason: Reason) -> u32 {
+        reason as u32
+    }
+}
+
+// A refusal: its reason, and the byte that it points at.
+#[derive(Clone, Copy, PartialEq, Eq)]
+pub struct Refusal {
+    pub reason: Reason,
+    pub offset: usize,
+}
+
+// A reason points at the first byte of what it refuses.
+impl From<Reason> for Refusal {
+    ghost from_gives = { λ reason refusal. refusal ≡ record { reason = reason; offset = 0 } };
+
+    fn from(reason: Reason) -> Refusal {
+        Refusal { reason, offset: 0 }
+    }
+}
+
+impl Refusal {
+    // The same refusal, counted from so many bytes before.
+    pub fn after(self, start: usize) -> Refusal
+        requires { start + self.offset < 2 ^ 64 }
+        ensures { result ≡ record { reason = self.reason; offset = start + self.offset } }
+    {
+        Refusal {
+            reason: self.reason,
+            offset: start + self.offset,
+        }
+    }
+}
+
+// What a test is for: an assumption, what must hold, the bound on back jumps.
+#[derive(Clone, Copy, PartialEq, Eq)]
+pub enum Kind {
+    Assume = 2,
+    Assert = 3,
+    Bound = 4,
+}
+
+// A false test, with the place where it stands.
+#[derive(Clone, Copy, PartialEq, Eq)]
+pub struct Failure {
+    pub kind: Kind,
+    pub place: u32,
+}
+
+impl Failure {
+    // The verdict's number: 1 unsafe, 2 stopped by an Assume, 3 cut by the bound.
+    pub fn verdict(self) -> u32
+        ensures { result ≡ verdict (Failed self.kind self.place) }
+    {
+        match self.kind {
+            Kind::Assume => 2,
+            Kind::Assert => 1,
+            Kind::Bound => 3,
+        }
+    }
+
+    // The place that goes with it: only unsafe has one.
+    pub fn answered_place(self) -> u32
+        ensures { result ≡ place_of (Failed self.kind self.place) }
+    {
+        if self.kind == Kind::Assert {
+            self.place
+        } else {
+            0
+        }
+    }
 }
 
 // Room for the inputs of any version.
@@ -35,10 +114,7 @@ pub const INPUT_ROOM: usize = 64;
 pub fn version_of(s: &[u8]) -> u8
     ensures { result ≡ header_version s.now }
 {
-    if s.len() == 0 {
-        return 0;
-    }
-    s[0]
+    s.first().copied().unwrap_or(0)
 }
 
 // The bytes of a version's header, and of a file's.
@@ -83,64 +159,65 @@ pub fn count_of(s: &[u8]) -> usize
     number::two_at(s, 4)
 }
 
-// The first of the replies 1 to 4 that a header gets, or 0; `known` says whether its version is.
-pub fn header_reply(s: &[u8], known: bool, limit: usize) -> u8
-    ensures { result ≡ header_reply (λ version. known) limit s.now }
+// The first reason, of those with the replies 1 to 4, for which a header is refused; `known` says whether its version is.
+pub fn header_reply(s: &[u8], known: bool, limit: usize) -> Result<(), Reason>
+    ensures { first_reply result ≡ header_reply (λ version. known) limit s.now }
 {
     if s.len() < header_size(s) {
-        return 1;
+        return Err(Reason::Short);
     }
     if !known {
-        return 2;
+        return Err(Reason::Version);
     }
     if total_of(s) != s.len() {
-        return 3;
+        return Err(Reason::Length);
     }
     if inputs_limit(s) < inputs_of(s) {
-        return 4;
+        return Err(Reason::TooMany);
     }
     if limit < count_of(s) {
-        return 4;
+        return Err(Reason::TooMany);
     }
-    0
+    Ok(())
 }
 
-// The length of the record at a place, after its length field; 0 where that is missing, 0 or passes the end.
-pub fn frame_at(s: &[u8], at: usize) -> usize
+// The length of the record at a place, after its length field; none where that is missing, 0 or passes the end.
+pub fn frame_at(s: &[u8], at: usize) -> Option<usize>
     requires { at ≤ length s.now }
-    ensures { result ≡ frame (drop at s.now) }
+    ensures { result ≡ frame_in (drop at s.now) }
 {
     let left = s.len() - at;
     if left < 2 {
-        return 0;
+        return None;
     }
     let len = number::two_at(s, at);
     if left < 2 + len {
-        return 0;
+        return None;
     }
-    len
+    if len == 0 {
+        return None;
+    }
+    Some(len)
 }
 
-// A fault of a whole record, at its first byte.
-pub fn at_record(reply: u8) -> Fault
-    ensures { result ≡ record { reply = reply; from = 0 } }
-{
-    Fault { reply, from: 0 }
-}
-
-// What is wrong with the expression from a place of a record's body on: nothing, or 7 at the token that breaks its rules. It may read
-// inputs, and the symbols that are marked as assigned.
-pub fn expr_fault(body: &[u8], from: usize, f: File, inputs: usize, assigned: &[bool]) -> Fault
+// Refuses the expression from a place of a record's body on at the first token that breaks its rules. It may read inputs, and the symbols
+// that are marked as assigned.
+pub fn expr_fault(
+    body: &[u8],
+    from: usize,
+    f: File,
+    inputs: usize,
+    assigned: &[bool],
+) -> Result<(), Refusal>
     requires { from ≤ length body.now }
-    ensures { result ≡ expr_fault (length body.now)
-        (parse f (readable inputs assigned.now) (drop from body.now)) }
+    ensures { fault_in result ≡ expr_fault (length body.now) (parse f (readable inputs assigned.now) (drop from body.now)) }
 {
     match accept::check_expr(&body[from..], f, inputs, assigned) {
-        Ok(()) => Fault { reply: 0, from: 0 },
-        Err(at) => Fault {
-            reply: 7,
-            from: 2 + from + at,
-        },
+        Ok(()) => Ok(()),
+        Err(at) => Err(Refusal {
+            reason: Reason::Expression,
+            offset: 2 + from + at,
+        }),
     }
 }
 
@@ -158,11 +235,7 @@ pub fn copy_words(words: &[u32], cells: &mut [u32])
     requires { length words.now ≤ length cells.old }
     ensures { cells.new ≡ sets cells.old 0 words.now }
 {
-    let mut s: usize = 0;
-    while s < words.len() {
-        cells[s] = words[s];
-        s += 1;
-    }
+    cells[..words.len()].copy_from_slice(words);
 }
 
 // Stores `count` words, which are handed as bytes, at the front of an array.
@@ -170,9 +243,7 @@ pub fn decode(bytes: &[u8], count: usize, words: &mut [u32])
     requires { (4 * count ≤ length bytes.now) × (count ≤ length words.old) }
     ensures { words.new ≡ sets words.old 0 (words_of count bytes.now) }
 {
-    let mut s: usize = 0;
-    while s < count {
+    for s in 0..count {
         words[s] = number::word_at(bytes, 4 * s);
-        s += 1;
     }
 }

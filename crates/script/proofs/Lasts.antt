@@ -11,14 +11,15 @@ use Rattle.expr.specs.Lists.{All}
 use Rattle.expr.specs.Number.{Byte, number_of}
 use Rattle.expr.specs.declared.token.Token.{Token}
 use Rattle.file.specs.Outcome.{Kind, Assume, Assert, Bound}
-use Rattle.file.specs.File.{header_size, header_count}
-use Rattle.file.specs.Shown.{is_accepted, listed}
+use Rattle.file.specs.File.{header_count}
+use Rattle.file.specs.Shown.{is_accepted, listed, offsets_in}
 use Rattle.trace.specs.Trace.{Stmt, Assign, Test, read_trace}
 use Rattle.trace.specs.Asserts.{is_assert, has_assert, asserted}
 use Rattle.trace.specs.AssertsLaws.{asserted_none}
 use Rattle.trace.specs.Shown.{test_kind, symbol_room, loose, expr_of}
 use Rattle.trace.proofs.Held.{Held}
-use Rattle.trace.proofs.Passes.{known, Passing, pass-start, Passed, pass, pass-end}
+use Rattle.trace.proofs.Passes.{known, pass-end}
+use Rattle.trace.proofs.Standing.{Walking, walking-start, Turn, walking-turn, walking-end}
 use Rattle.script.specs.Shown.{test_count, seen_after, statements_after, tests_after}
 
 -- k statements of ts, `seen` of them tests, stand before those that are left
@@ -110,54 +111,62 @@ kind-left ts k seen statements tests {s} {at} h kind q t z ls v = go (eqb kind 1
 
 -- ---- the loop
 
-pub record Seeking (s : List ℕ) (n k at seen statements tests : ℕ) : Type 0 where
-  pub passing : Passing s k at
+pub record Seeking (s : List ℕ) (n k : ℕ) (left : List ℕ) (count seen statements tests : ℕ) : Type 0 where
+  pub walking : Walking s n k left
   pub many : n ≡ header_count s
   pub most : n ≤ 4096
+  pub here : count ≡ k
   pub counted : seen ≤ k
   pub notes : Left (listed (read_trace s)) k seen statements tests (drop k (listed (read_trace s)))
 
-pub seeking_start : (s : List ℕ) (n : ℕ) → All Byte s → is_accepted (read_trace s) ≡ true → n ≡ header_count s → {at : ℕ} → at
-    ≡ header_size s
-    → Seeking s n 0 at 0 0 0
-seeking_start s n o h q front = record {
-  passing = pass-start s o h front;
+pub seeking_start : (s : List ℕ) (n : ℕ) → All Byte s → is_accepted (read_trace s) ≡ true → n ≡ header_count s → {left : List ℕ}
+    → left ≡ offsets_in n s → Seeking s n 0 left 0 0 0 0
+seeking_start s n o h q e = record {
+  walking = walking-start s n o h e;
   many = q;
   most = omega (arith, (known s h).few);
+  here = refl;
   counted = omega arith;
   notes = left-start (listed (read_trace s));
 }
 
-module _ {s : List ℕ} {n k at seen statements tests : ℕ} (v : Seeking s n k at seen statements tests) where
-  module _ (h : k < n) where
-    pub seeking_passed : Passed s k at
-    seeking_passed = pass v.passing (omega (arith, v.many))
+module _ {s : List ℕ} {n k : ℕ} {left : List ℕ} {count seen statements tests : ℕ} (v : Seeking s n k left count seen statements tests)
+  where
+    -- the next offset is `at`
+    module _ (at : ℕ) (behind : List ℕ) (e : left ≡ at ∷ behind) where
+      pub seeking_turn : Turn s n k v.walking.at at behind
+      seeking_turn = walking-turn v.walking (omega (arith, v.many)) at behind e
 
-    pub seeking_on : (kind : ℕ) → kind ≡ get_or s (at + 2) 0 → (len : ℕ) → len ≡ number_of 2 (drop at s) → {a b d : ℕ}
-        → (a ≡ seen_after kind seen) × (b ≡ statements_after kind (k + 1) statements) × (d ≡ tests_after kind seen tests)
-        → Seeking s n (k + 1) (at + (2 + len)) a b d
-    seeking_on kind e len q {a} {b} {d} (x, y, z) =
+      pub seeking_low : (count < 65536) × (seen < 65536)
+      seeking_low = (omega (arith, v.here, v.most, seeking_turn.more), omega (arith, v.counted, v.most, seeking_turn.more))
+
+      pub seeking_on : (kind : ℕ) → kind ≡ get_or s (at + 2) 0 → {c a b d : ℕ}
+          → (c ≡ count + 1) × (a ≡ seen_after kind seen) × (b ≡ statements_after kind (count + 1) statements)
+          × (d ≡ tests_after kind seen tests) → Seeking s n (k + 1) behind c a b d
+      seeking_on kind f {c} {a} {b} {d} (w, x, y, z) =
+          let ts = listed (read_trace s) in
+          let passed = seeking_turn.passed in
+          let here = passed.here in
+          let same : here.statement ≡ passed.statement = (let w = sym here.is ∙ passed.holds in cc) in
+          let next = kind-left ts k seen statements tests here kind f passed.statement same (drop (k + 1) ts)
+          (subst (Left ts k seen statements tests) passed.split v.notes) in
+          record {
+            walking = seeking_turn.then;
+            many = v.many;
+            most = v.most;
+            here = omega (arith, v.here);
+            counted = (let w = after_le (eqb kind 1) in omega (arith, v.counted));
+            notes = rw (x, y, z, v.here) next;
+          }
+        where
+          after_le : (t : Bool) → cond t seen (seen + 1) ≤ seen + 1
+          after_le true = omega arith
+          after_le false = omega arith
+
+    pub seeking_end : left ≡ [] → (statements ≡ length (asserted (listed (read_trace s))))
+        × (tests ≡ test_count (asserted (listed (read_trace s))))
+    seeking_end e =
         let ts = listed (read_trace s) in
-        let here = seeking_passed.here in
-        let t = seeking_passed.statement in
-        let same : here.statement ≡ t = (let w = sym here.is ∙ seeking_passed.holds in cc) in
-        let next = kind-left ts k seen statements tests here kind e t same (drop (k + 1) ts)
-        (subst (Left ts k seen statements tests) seeking_passed.split v.notes) in
-        record {
-          passing = seeking_passed.then len q;
-          many = v.many;
-          most = v.most;
-          counted = (let w = after_le (eqb kind 1) in omega (arith, v.counted));
-          notes = rw (x, y, z) next;
-        }
-      where
-        after_le : (t : Bool) → cond t seen (seen + 1) ≤ seen + 1
-        after_le true = omega arith
-        after_le false = omega arith
-
-  pub seeking_end : n ≤ k → (statements ≡ length (asserted (listed (read_trace s))))
-      × (tests ≡ test_count (asserted (listed (read_trace s))))
-  seeking_end h =
-      let ts = listed (read_trace s) in
-      let w = subst (Left ts k seen statements tests) (pass-end v.passing (omega (arith, v.many))) v.notes in
-      (w.last, w.inner)
+        let none = pass-end v.walking.passing (omega (arith, v.many, walking-end v.walking e)) in
+        let w = subst (Left ts k seen statements tests) none v.notes in
+        (w.last, w.inner)

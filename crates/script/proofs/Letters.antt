@@ -5,6 +5,7 @@ use native.Mathlib.Nat.{add-zero}
 use mathlib.Core.Path.{◌≡◌, refl, sym, ap}
 use mathlib.Core.List.{List, [], ◌∷◌, ◌++◌}
 use lib.ListN.{replicate}
+use Rattle.std.specs.Int.{w32, to_be_bytes}
 use Rattle.write.specs.Splice.{Wrote}
 use Rattle.write.specs.SpliceLaws.{splice_nil, Ahead, ahead_start, ahead_step, ahead_end}
 use Rattle.write.specs.Ascii.{ascii}
@@ -19,9 +20,12 @@ wrote_none o at = record { buffer = sym (splice_nil at o); next = sym (add-zero 
 abbrev pair : ℕ → List ℕ
 pair b = hex_digit (b / 16) ∷ hex_digit (b % 16) ∷ []
 
+abbrev pub pairs : List ℕ → List ℕ
+pairs [] = []
+pairs (b ∷ bs) = pair b ++ pairs bs
+
 -- two digits for each of four bytes
-pub constant_pairs : (v : ℕ) → ascii "#x" ++ pair (v / 16777216 % 256) ++ pair (v / 65536 % 256) ++ pair (v / 256 % 256) ++ pair (v % 256)
-    ≡ constant v
+pub constant_pairs : (v : ℕ) → ascii "#x" ++ pairs (to_be_bytes w32 v) ≡ constant v
 unfolding constant
 constant_pairs v =
     let a : v / 16777216 % 256 / 16 ≡ v / 268435456 % 16 = omega arith in

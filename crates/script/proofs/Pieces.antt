@@ -3,8 +3,8 @@ use Prim.Native.Nat.{ℕ, zero, suc, ◌+◌, ◌-◌, ◌*◌, ◌^◌, ◌≤�
 use native.Mathlib.Omega.{arith}
 use mathlib.Core.Path.{◌≡◌, refl, sym, ap, ap₂, ◌∙◌, subst}
 use mathlib.Core.Bool.{Bool, true, false, cond}
-use mathlib.Core.List.{List, ◌++◌}
-use lib.ListN.{length, take, drop, get_or}
+use mathlib.Core.List.{List, [], ◌∷◌, ◌++◌}
+use lib.ListN.{take, drop, get_or}
 use lib.Dec.{eqb}
 use borrow.Author.Tests.{eq-eqb, ne_eqb}
 use Rattle.expr.specs.declared.File.TheVariants.{Trace}
@@ -14,17 +14,17 @@ use Rattle.expr.specs.declared.token.Token.{Token}
 use Rattle.expr.specs.Expr.{below, parse}
 use Rattle.expr.specs.Shown.{tokens_of}
 use Rattle.file.specs.Outcome.{Kind, Assume, Bound}
-use Rattle.file.specs.File.{input_room, header_size, header_count, Good}
-use Rattle.file.specs.Shown.{is_good, is_accepted, listed}
+use Rattle.file.specs.File.{input_room, header_count, Good}
+use Rattle.file.specs.Shown.{is_good, is_accepted, listed, offsets_in}
 use Rattle.trace.specs.Trace.{Assign, Test, read_trace}
 use Rattle.trace.specs.Shown.{test_kind, symbol_room, loose, held, expr_part, expr_of}
 use Rattle.trace.proofs.Held.{Held}
-use Rattle.trace.proofs.Passes.{tokens_are, known, Passing, pass-start, Passed, pass}
+use Rattle.trace.proofs.Passes.{tokens_are}
+use Rattle.trace.proofs.Standing.{Walking, walking-start, Turn, walking-turn, walking-end}
 use Rattle.write.specs.Splice.{Wrote}
 use Rattle.write.specs.SpliceLaws.{Ahead, ahead_start, ahead_step, ahead_end}
 use Rattle.write.specs.Ascii.{ascii}
-use Rattle.script.specs.declared.line.Part.{Part}
-use Rattle.script.specs.declared.line.Part.TheVariants.{Declarations, Equations, Tests}
+use Rattle.script.specs.Shown.{Part, Declarations, Equations, Tests}
 use Rattle.script.specs.Script.{numbers_from}
 use Rattle.script.specs.ScriptText.{declaration, declarations}
 use Rattle.script.specs.Shown.{opening, piece, piece_in, pieces}
@@ -102,64 +102,63 @@ module _ {n : ℕ} {out₀ : List ℕ} {at : ℕ} {out : List ℕ} {k to : ℕ} 
 
 -- ---- the statements
 
-pub record Listing (part : Part) (s : List ℕ) (n : ℕ) (out₀ : List ℕ) (to : ℕ) (out : List ℕ) (k at next : ℕ) : Type 0 where
-  pub passing : Passing s k at
+pub record Listing (part : Part) (s : List ℕ) (n : ℕ) (out₀ : List ℕ) (to : ℕ) (out : List ℕ) (k : ℕ) (left : List ℕ)
+    (next : ℕ) : Type 0 where
+  pub walking : Walking s n k left
   pub wrote : Ahead out next (pieces part (take (n - k) (drop k (listed (read_trace s))))) out₀ to
       (pieces part (take n (listed (read_trace s))))
   pub many : n ≤ header_count s
-  pub count : n ≤ 4096
-  pub little : next ≤ to + 130 * at
+  pub little : next ≤ to + 130 * walking.at
 
--- with the code's own size of the header
+-- with the code's own list of offsets
 pub listing_start : (part : Part) (s out : List ℕ) (n to : ℕ) → All Byte s → is_accepted (read_trace s) ≡ true → n ≤ header_count s
-    → {at : ℕ} → at ≡ header_size s → Listing part s n out to out 0 at to
-listing_start part s out n to o h q front =
+    → {left : List ℕ} → left ≡ offsets_in n s → Listing part s n out to out 0 left to
+listing_start part s out n to o h q e =
     let ts = listed (read_trace s) in
     record {
-      passing = pass-start s o h front;
+      walking = walking-start s n o h e;
       wrote =
           subst (λ m. Ahead out to (pieces part (take m ts)) out to (pieces part (take n ts))) (let z : n ≡ n - 0 = omega arith in z)
           (ahead_start out to (pieces part (take n ts)));
       many = q;
-      count = omega (arith, (known s h).few);
       little = omega arith;
     }
 
-module _ {part : Part} {s : List ℕ} {n : ℕ} {out₀ : List ℕ} {to : ℕ} {out : List ℕ} {k at next : ℕ}
-    (v : Listing part s n out₀ to out k at next) where
-  module _ (h : k < n) where
-    here : Passed s k at
-    here = pass v.passing (omega (arith, v.many))
+module _ {part : Part} {s : List ℕ} {n : ℕ} {out₀ : List ℕ} {to : ℕ} {out : List ℕ} {k : ℕ} {left : List ℕ} {next : ℕ}
+    (v : Listing part s n out₀ to out k left next) where
+  -- the next offset is `at`
+  module _ (at : ℕ) (behind : List ℕ) (e : left ≡ at ∷ behind) where
+    here : Turn s n k v.walking.at at behind
+    here = walking-turn v.walking v.many at behind e
+
+    pub listing_low : at < 65536
+    listing_low = omega (arith, here.here.inside, here.here.few)
 
     pub listing_good : is_good (held (drop at s)) ≡ true
-    listing_good = ap is_good here.holds
-
-    pub listing_inside : at + (2 + number_of 2 (drop at s)) ≤ length s
-    listing_inside = here.here.whole
+    listing_good = ap is_good here.passed.holds
 
     -- the letters of the piece can be counted
     pub listing_room : to ≤ 30000000 → next + 130 * (2 + number_of 2 (drop at s)) < 2 ^ 64
-    listing_room l = omega (arith, v.little, v.passing.few, listing_inside)
+    listing_room l = omega (arith, v.little, here.is, here.here.few, here.passed.here.whole)
 
     pub listing_on : {out' : List ℕ} {next' : ℕ} → Wrote out next (piece_in part (held (drop at s))) out' next'
-        × (next' ≤ next + 130 * (2 + number_of 2 (drop at s)))
-        → (len : ℕ) → len ≡ number_of 2 (drop at s) → Listing part s n out₀ to out' (k + 1) (at + (2 + len)) next'
-    listing_on (w, l) len q =
+        × (next' ≤ next + 130 * (2 + number_of 2 (drop at s))) → Listing part s n out₀ to out' (k + 1) behind next'
+    listing_on (w, l) =
         let left = drop (k + 1) (listed (read_trace s)) in
         let m = n - (k + 1) in
         record {
-          passing = here.then len q;
+          walking = here.then;
           wrote =
               ahead_step v.wrote
-              (ap₂ (λ j xs. pieces part (take j xs)) (let z : n - k ≡ suc m = omega arith in z) here.split
-              ∙ ap (λ b. piece_in part b ++ pieces part (take m left)) (sym here.holds)) w;
+              (ap₂ (λ j xs. pieces part (take j xs)) (let z : n - k ≡ suc m = omega (arith, here.more) in z) here.passed.split
+              ∙ ap (λ b. piece_in part b ++ pieces part (take m left)) (sym here.passed.holds)) w;
           many = v.many;
-          count = v.count;
-          little = omega (arith, v.little);
+          little = omega (arith, v.little, here.is, here.on);
         }
 
-  pub listing_end : n ≤ k → Wrote out₀ to (pieces part (take n (listed (read_trace s)))) out next × (next ≤ to + 130 * 65535)
-  listing_end h = (
-    ahead_end v.wrote (ap (λ j. pieces part (take j (drop k (listed (read_trace s))))) (let z : n - k ≡ 0 = omega arith in z)),
-    omega (arith, v.little, v.passing.inside, v.passing.few),
-  )
+  pub listing_end : left ≡ [] → Wrote out₀ to (pieces part (take n (listed (read_trace s)))) out next × (next ≤ to + 130 * 65535)
+  listing_end e =
+      let done : n - k ≡ 0 = omega (arith, walking-end v.walking e) in (
+        ahead_end v.wrote (ap (λ j. pieces part (take j (drop k (listed (read_trace s))))) done),
+        omega (arith, v.little, v.walking.passing.inside, v.walking.passing.few),
+      )

@@ -14,7 +14,7 @@ use Rattle.trace.specs.Asserts.{asserted}
 use Rattle.trace.specs.AssertsLaws.{asserted-few, asserted-take}
 use Rattle.trace.proofs.Passes.{Known}
 use Rattle.write.specs.Ascii.{ascii}
-use Rattle.script.specs.declared.line.Part.TheVariants.{Declarations, Equations, Tests}
+use Rattle.script.specs.Shown.{Declarations, Equations, Tests}
 use Rattle.script.specs.Smt.{Formula}
 use Rattle.script.specs.Script.{expr_term, numbers_from, assigned, equations_of, tested, violation, script_of}
 use Rattle.script.specs.ScriptText.{constant, term_text, formula_text, declaration, declarations, equation_line, equation_lines}

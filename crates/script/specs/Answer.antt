@@ -3,7 +3,7 @@ use Rattle.std.specs.Prelude.{ℕ, ◌≡◌, cond, List, [], length, leb}
 use Rattle.file.specs.File.{Input, Accepted, Refused}
 use Rattle.trace.specs.Trace.{Stmt, read_trace}
 use Rattle.write.specs.Splice.{over}
-use Rattle.script.specs.declared.Answer.{Answer}
+use Rattle.write.specs.declared.Written.{Written}
 use Rattle.script.specs.ScriptText.{script_text}
 
 -- the bytes are written from the buffer's first byte on, and the length answered is theirs
@@ -32,9 +32,9 @@ script_answer trace room = answered room (read_trace trace)
 
 -- ---- what the call answers and leaves in the buffer
 
-abbrev pub numbers : Exported → Answer
+abbrev pub numbers : Exported → Written
 numbers q = record { reply = q.reply; offset = q.offset; length = length q.bytes }
 
-pub record ScriptWritten (trace out out' : List ℕ) (r : Answer) : Type 0 where
+pub record ScriptWritten (trace out out' : List ℕ) (r : Written) : Type 0 where
   pub answer : r ≡ numbers (script_answer trace (length out))
   pub buffer : out' ≡ over (script_answer trace (length out)).bytes out

@@ -12,8 +12,6 @@ use Rattle.file.specs.File.{Body, Good, Bad, Input, Accepted, Refused}
 use Rattle.trace.specs.Trace.{Stmt, Assign, Test}
 use Rattle.trace.specs.Asserts.{asserted}
 use Rattle.write.specs.Ascii.{ascii}
-use Rattle.script.specs.declared.line.Part.{Part}
-use Rattle.script.specs.declared.line.Part.TheVariants.{Declarations, Equations, Tests}
 use Rattle.script.specs.Script.{token_term, expr_term, numbers_from}
 use Rattle.script.specs.ScriptText.{slot_name, term_text, declaration, declarations, equation_line, script_text}
 
@@ -74,6 +72,11 @@ abbrev pub binding : (d : ℕ) → Token → List ℕ
 binding d t = binding_of (d - pops t) (term_text (token_term (d - pops t) t))
 
 -- ---- what a statement adds to a part of the script
+
+pub data Part : Type 0 where
+  Declarations : Part
+  Equations : Part
+  Tests : Part
 
 abbrev pub opening : Kind → String
 opening Assume = "(and (distinct #x00000000 "

@@ -6,16 +6,20 @@ mod operator;
 mod term;
 mod text;
 
-ghost use Rattle.std.specs.Prelude.{◌≡◌, true, ◌+◌, ◌≤◌, length};
+ghost use Rattle.std.specs.Prelude.{◌≡◌, true, ◌+◌, ◌^◌, ◌≤◌, ◌<◌, length};
+ghost use Rattle.std.specs.Result.{IfErr};
 ghost use Rattle.file.specs.File.{header_count};
 ghost use Rattle.file.specs.Shown.{is_accepted, listed};
 ghost use Rattle.trace.specs.Trace.{read_trace};
 ghost use Rattle.write.specs.Splice.{Wrote};
+ghost use Rattle.write.specs.Shown.{written};
 ghost use Rattle.script.specs.Shown.{claim_text, definitions_text, script_in};
-ghost use Rattle.script.specs.Answer.{refusal, numbers, ScriptWritten};
+ghost use Rattle.script.specs.Answer.{ScriptWritten};
 
-use line::Part;
+use file::{Reason, Refusal};
+use line::{Claim, Declare, Equate};
 use trace::read;
+pub use write::Written as Answer;
 
 // Everything before the last assertion, from the buffer's first byte: all declarations and equations.
 fn put_definitions(trace: &[u8], n: usize, out: &mut [u8]) -> usize
@@ -25,8 +29,8 @@ fn put_definitions(trace: &[u8], n: usize, out: &mut [u8]) -> usize
 {
     let a = write::fit_part(b"(set-logic QF_BV)\n", out, 0);
     let b = line::put_inputs(file::inputs_of(trace), out, a);
-    let c = line::put_pieces(Part::Declarations, trace, n, out, b);
-    line::put_pieces(Part::Equations, trace, n, out, c)
+    let c = line::put_pieces(Declare, trace, n, out, b);
+    line::put_pieces(Equate, trace, n, out, c)
 }
 
 // The last assertion: the tests up to the last Assert.
@@ -37,7 +41,7 @@ fn put_claim(trace: &[u8], n: usize, out: &mut [u8], at: usize) -> usize
 {
     let last = line::last_assert(trace, n);
     let a = write::fit_part(b"(assert\n", out, at);
-    let b = line::put_pieces(Part::Tests, trace, last.statements, out, a);
+    let b = line::put_pieces(Claim, trace, last.statements, out, a);
     let c = write::fit_part(b"false", out, b);
     term::put_closings(last.tests, out, c)
 }
@@ -62,41 +66,22 @@ fn measure(trace: &[u8]) -> usize
     put_script(trace, &mut byte)
 }
 
-// The answer to writing a script: a reply and its offset, and the length written.
-#[derive(Clone, Copy)]
-pub struct Answer {
-    pub reply: u32,
-    pub offset: u32,
-    pub length: u32,
-}
-
-fn refused(reply: u32, offset: u32) -> Answer
-    ensures { result ≡ numbers (refusal reply offset) }
-{
-    Answer {
-        reply: reply,
-        offset: offset,
-        length: 0,
-    }
-}
-
 // Writes the script of a trace.
 pub fn write_script(trace: &[u8], out: &mut [u8]) -> Answer
     ensures { ScriptWritten trace.now out.old out.new result }
 {
+    Answer::of(try_script(trace, out))
+}
+
+// The length of a script that is written, or why none is.
+fn try_script(trace: &[u8], out: &mut [u8]) -> Result<u32, Refusal>
+    ensures answer { ScriptWritten trace.now out.old out.new (written result) }
+    ensures small { IfErr result (λ why. why.offset < 2 ^ 32) }
+{
     let mut offsets: [u16; 4096] = [0; 4096];
-    let t = read::read_trace(trace, &mut offsets);
-    let reply = t.reply;
-    if reply != 0 {
-        return refused(reply as u32, t.offset as u32);
-    }
+    read::read_trace(trace, &mut offsets)?;
     if out.len() < measure(trace) {
-        return refused(10, 0);
+        return Err(Reason::ShortBuffer.into());
     }
-    let length = put_script(trace, out);
-    Answer {
-        reply: 0,
-        offset: 0,
-        length: length as u32,
-    }
+    Ok(put_script(trace, out) as u32)
 }

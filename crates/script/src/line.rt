@@ -13,12 +13,14 @@ ghost use Rattle.write.specs.Splice.{Wrote};
 ghost use Rattle.write.specs.Ascii.{ascii};
 ghost use Rattle.script.specs.Script.{numbers_from, expr_term};
 ghost use Rattle.script.specs.ScriptText.{declaration, declarations, equation_line};
+ghost use Rattle.script.specs.Shown.{Part, Declarations, Equations, Tests};
 ghost use Rattle.script.specs.Shown.{opening, test_line, piece, piece_in, pieces, test_count, seen_after, statements_after, tests_after};
 
 use super::text::SYMBOL;
 use super::{term, text};
 use expr::number;
 use trace::read;
+use trace::records::Records;
 
 fn put_declaration(s: usize, out: &mut [u8], at: usize) -> usize
     requires { (s < 65536) × (at + 42 < 2 ^ 64) }
@@ -34,11 +36,9 @@ pub fn put_inputs(n: usize, out: &mut [u8], at: usize) -> usize
     requires { (n ≤ input_room) × (at ≤ 1000) }
     ensures { Wrote out.old at (declarations (numbers_from 0 n)) out.new result × (result ≤ at + 42 * input_room) }
 {
-    let mut k: usize = 0;
     let mut to = at;
-    while k < n {
+    for k in 0..n {
         to = put_declaration(k, &mut *out, to);
-        k += 1;
     }
     to
 }
@@ -60,10 +60,10 @@ fn put_opening(kind: u8, out: &mut [u8], at: usize) -> usize
     requires { at + 26 < 2 ^ 64 }
     ensures { Wrote out.old at (ascii (opening (test_kind kind))) out.new result × (result ≤ at + 26) }
 {
-    if kind == 3 {
-        return write::fit_part(b"(or (= #x00000000 ", out, at);
+    match kind {
+        3 => write::fit_part(b"(or (= #x00000000 ", out, at),
+        _ => write::fit_part(b"(and (distinct #x00000000 ", out, at),
     }
-    write::fit_part(b"(and (distinct #x00000000 ", out, at)
 }
 
 fn put_tested(kind: u8, e: &[u8], out: &mut [u8], at: usize) -> usize
@@ -76,106 +76,134 @@ fn put_tested(kind: u8, e: &[u8], out: &mut [u8], at: usize) -> usize
     write::fit_part(b")\n", out, b)
 }
 
-// The parts of a script to which statements add.
-#[derive(Clone, Copy)]
-pub enum Part {
-    Declarations,
-    Equations,
-    Tests,
+// What a part of a script gets from a statement.
+pub trait Step: Copy {
+    ghost part: { Part };
+
+    // What an Assign adds to it.
+    fn put_assign(self, s: usize, e: &[u8], out: &mut [u8], at: usize) -> usize
+        requires { (s < 65536) × (is_whole (parse Trace (below symbol_room) e.now) ≡ true) × (at + 130 * length e.now + 200 < 2 ^ 64) }
+        ensures { Wrote out.old at (piece part (Assign 0 s (tokens_of (parse Trace (below symbol_room) e.now))))
+            out.new result × (result ≤ at + 130 * length e.now + 42) };
+
+    // And what a test adds.
+    fn put_test(self, kind: u8, e: &[u8], out: &mut [u8], at: usize) -> usize
+        requires { (is_whole (parse Trace (below symbol_room) e.now) ≡ true) × (at + 130 * length e.now + 200 < 2 ^ 64) }
+        ensures { Wrote out.old at
+            (piece part (Test (test_kind kind) 0 (tokens_of (parse Trace (below symbol_room) e.now)))) out.new result
+            × (result ≤ at + 130 * length e.now + 42) };
 }
 
-// What an Assign adds to a part.
-fn put_assign(part: Part, s: usize, e: &[u8], out: &mut [u8], at: usize) -> usize
-    requires { (s < 65536) × (is_whole (parse Trace (below symbol_room) e.now) ≡ true) × (at + 130 * length e.now + 200 < 2 ^ 64) }
-    ensures { Wrote out.old at (piece part (Assign 0 s (tokens_of (parse Trace (below symbol_room) e.now))))
-        out.new result × (result ≤ at + 130 * length e.now + 42) }
-{
-    match part {
-        Part::Declarations => put_declaration(s, out, at),
-        Part::Equations => put_equation(s, e, out, at),
-        Part::Tests => at,
+// The declarations of assigned symbols.
+#[derive(Clone, Copy)]
+pub struct Declare;
+
+impl Step for Declare {
+    ghost part = { Declarations };
+
+    fn put_assign(self, s: usize, e: &[u8], out: &mut [u8], at: usize) -> usize {
+        put_declaration(s, out, at)
+    }
+
+    fn put_test(self, kind: u8, e: &[u8], out: &mut [u8], at: usize) -> usize {
+        at
     }
 }
 
-// And what a test adds.
-fn put_test(part: Part, kind: u8, e: &[u8], out: &mut [u8], at: usize) -> usize
-    requires { (is_whole (parse Trace (below symbol_room) e.now) ≡ true) × (at + 130 * length e.now + 200 < 2 ^ 64) }
-    ensures { Wrote out.old at
-        (piece part (Test (test_kind kind) 0 (tokens_of (parse Trace (below symbol_room) e.now)))) out.new result
-        × (result ≤ at + 130 * length e.now + 42) }
-{
-    match part {
-        Part::Declarations => at,
-        Part::Equations => at,
-        Part::Tests => put_tested(kind, e, out, at),
+// The equations of assigned symbols.
+#[derive(Clone, Copy)]
+pub struct Equate;
+
+impl Step for Equate {
+    ghost part = { Equations };
+
+    fn put_assign(self, s: usize, e: &[u8], out: &mut [u8], at: usize) -> usize {
+        put_equation(s, e, out, at)
+    }
+
+    fn put_test(self, kind: u8, e: &[u8], out: &mut [u8], at: usize) -> usize {
+        at
+    }
+}
+
+// The lines of tests.
+#[derive(Clone, Copy)]
+pub struct Claim;
+
+impl Step for Claim {
+    ghost part = { Tests };
+
+    fn put_assign(self, s: usize, e: &[u8], out: &mut [u8], at: usize) -> usize {
+        at
+    }
+
+    fn put_test(self, kind: u8, e: &[u8], out: &mut [u8], at: usize) -> usize {
+        put_tested(kind, e, out, at)
     }
 }
 
 // What the record at a place adds to a part.
-fn put_piece(part: Part, trace: &[u8], at: usize, out: &mut [u8], to: usize) -> usize
+fn put_piece<S: Step>(step: S, trace: &[u8], at: usize, out: &mut [u8], to: usize) -> usize
     requires { (at < 65536) × (is_good (held (drop at trace.now)) ≡ true)
         × (to + 130 * (2 + number_of 2 (drop at trace.now)) < 2 ^ 64) }
-    ensures { Wrote out.old to (piece_in part (held (drop at trace.now))) out.new result
+    ensures { Wrote out.old to (piece_in S.part (held (drop at trace.now))) out.new result
         × (result ≤ to + 130 * (2 + number_of 2 (drop at trace.now))) }
 {
     let e = read::expr_at(trace, at);
     let kind = trace[at + 2];
     if kind == 1 {
         let symbol = number::two_at(trace, at + 5);
-        return put_assign(part, symbol, e, out, to);
+        return step.put_assign(symbol, e, out, to);
     }
-    put_test(part, kind, e, out, to)
+    step.put_test(kind, e, out, to)
 }
 
 // What the first n statements add to a part.
-pub fn put_pieces(part: Part, trace: &[u8], n: usize, out: &mut [u8], to: usize) -> usize
+pub fn put_pieces<S: Step>(step: S, trace: &[u8], n: usize, out: &mut [u8], to: usize) -> usize
     requires { (is_accepted (read_trace trace.now) ≡ true) × (n ≤ header_count trace.now) × (to ≤ 30000000) }
-    ensures { Wrote out.old to (pieces part (take n (listed (read_trace trace.now)))) out.new result
+    ensures { Wrote out.old to (pieces S.part (take n (listed (read_trace trace.now)))) out.new result
         × (result ≤ to + 130 * 65535) }
 {
-    let mut k: usize = 0;
-    let mut at = file::header_size(trace);
     let mut next = to;
-    while k < n {
-        next = put_piece(part, trace, at, &mut *out, next);
-        at += 2 + number::two_at(trace, at);
-        k += 1;
+    for at in Records::first(trace, n) {
+        next = put_piece(step, trace, at, &mut *out, next);
     }
     next
 }
 
-// Of the statements so far: how many are tests, how many statements there are up to the last Assert, and how many of those are tests.
-#[derive(Clone, Copy)]
+// Of the statements so far: how many there are, how many are tests, how many statements there are up to the last Assert, and how many of
+// those are tests.
+#[derive(Clone, Copy, Default)]
 pub struct Noted {
+    pub count: usize,
     pub seen: usize,
     pub statements: usize,
     pub tests: usize,
 }
 
-// One statement more, the k-th, by its kind.
-fn note(kind: u8, k: usize, seen: usize, statements: usize, tests: usize) -> Noted
-    requires { seen < 65536 }
-    ensures { (result.seen ≡ seen_after kind seen) × (result.statements ≡ statements_after kind k statements)
-        × (result.tests ≡ tests_after kind seen tests) }
-{
-    if kind == 1 {
-        return Noted {
-            seen,
-            statements,
-            tests,
-        };
-    }
-    if kind == 3 {
-        return Noted {
-            seen: seen + 1,
-            statements: k,
-            tests: seen + 1,
-        };
-    }
-    Noted {
-        seen: seen + 1,
-        statements,
-        tests,
+impl Noted {
+    // One statement more, by its kind.
+    fn and(self, kind: u8) -> Noted
+        requires { (self.count < 65536) × (self.seen < 65536) }
+        ensures { (result.count ≡ self.count + 1) × (result.seen ≡ seen_after kind self.seen)
+            × (result.statements ≡ statements_after kind (self.count + 1) self.statements)
+            × (result.tests ≡ tests_after kind self.seen self.tests) }
+    {
+        let count = self.count + 1;
+        match kind {
+            1 => Noted { count, ..self },
+            3 => Noted {
+                count,
+                seen: self.seen + 1,
+                statements: count,
+                tests: self.seen + 1,
+            },
+            _ => Noted {
+                count,
+                seen: self.seen + 1,
+                ..self
+            },
+        }
     }
 }
 
@@ -185,23 +213,9 @@ pub fn last_assert(trace: &[u8], n: usize) -> Noted
     ensures { (result.statements ≡ length (asserted (listed (read_trace trace.now))))
         × (result.tests ≡ test_count (asserted (listed (read_trace trace.now)))) }
 {
-    let mut k: usize = 0;
-    let mut at = file::header_size(trace);
-    let mut seen: usize = 0;
-    let mut statements: usize = 0;
-    let mut tests: usize = 0;
-    while k < n {
-        let kind = trace[at + 2];
-        k += 1;
-        at += 2 + number::two_at(trace, at);
-        let r = note(kind, k, seen, statements, tests);
-        seen = r.seen;
-        statements = r.statements;
-        tests = r.tests;
+    let mut noted = Noted::default();
+    for at in Records::first(trace, n) {
+        noted = noted.and(trace[at + 2]);
     }
-    Noted {
-        seen,
-        statements,
-        tests,
-    }
+    noted
 }

@@ -46,11 +46,9 @@ pub fn put_closings(n: usize, out: &mut [u8], at: usize) -> usize
     requires { at + n < 2 ^ 64 }
     ensures { Wrote out.old at (replicate n 41) out.new result × (result ≡ at + n) }
 {
-    let mut i: usize = 0;
     let mut to = at;
-    while i < n {
+    for _ in 0..n {
         to = write::fit_byte(0x29, &mut *out, to);
-        i += 1;
     }
     to
 }

@@ -4,19 +4,19 @@ ghost use Rattle.write.specs.Splice.{Wrote};
 ghost use Rattle.write.specs.Decimal.{decimal};
 ghost use Rattle.script.specs.ScriptText.{hex_digit, constant};
 
-fn digit(d: u32) -> u8
+fn digit(d: u8) -> u8
     requires { d < 16 }
     ensures { result ≡ hex_digit d }
 {
-    if d < 10 {
-        return 48 + d as u8;
+    match d {
+        0..=9 => b'0' + d,
+        _ => b'a' - 10 + d,
     }
-    87 + d as u8
 }
 
 // The two hexadecimal digits of a byte.
-fn put_pair(b: u32, out: &mut [u8], at: usize) -> usize
-    requires { (b < 256) × (at + 2 < 2 ^ 64) }
+fn put_pair(b: u8, out: &mut [u8], at: usize) -> usize
+    requires { at + 2 < 2 ^ 64 }
     ensures { Wrote out.old at (hex_digit (b / 16) ∷ hex_digit (b % 16) ∷ []) out.new result }
 {
     let a = write::fit_byte(digit(b / 16), out, at);
@@ -28,11 +28,11 @@ pub fn put_hex(v: u32, out: &mut [u8], at: usize) -> usize
     requires { at + 10 < 2 ^ 64 }
     ensures { Wrote out.old at (constant v) out.new result × (result ≤ at + 10) }
 {
-    let a = write::fit_part(b"#x", out, at);
-    let b = put_pair(v / 16777216 % 256, out, a);
-    let c = put_pair(v / 65536 % 256, out, b);
-    let d = put_pair(v / 256 % 256, out, c);
-    put_pair(v % 256, out, d)
+    let mut to = write::fit_part(b"#x", out, at);
+    for b in v.to_be_bytes() {
+        to = put_pair(b, &mut *out, to);
+    }
+    to
 }
 
 // The letters of declared symbols and of variables.

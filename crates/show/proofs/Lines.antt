@@ -4,7 +4,7 @@ use Prim.Native.Nat.{ℕ, ◌+◌, ◌*◌, ◌^◌, ◌≤◌, ◌<◌}
 use native.Mathlib.Omega.{arith}
 use mathlib.Core.Path.{◌≡◌, sym, ap, ap₂, ◌∙◌}
 use mathlib.Core.Bool.{true}
-use mathlib.Core.List.{List, ◌++◌}
+use mathlib.Core.List.{List, [], ◌∷◌, ◌++◌}
 use lib.ListN.{length, drop, get_or}
 use lib.Seq.{append_snoc}
 use Rattle.expr.specs.declared.File.TheVariants.{Trace}
@@ -13,12 +13,13 @@ use Rattle.expr.specs.Number.{Byte, number_of}
 use Rattle.expr.specs.Expr.{below, parse}
 use Rattle.expr.specs.Shown.{tokens_of}
 use Rattle.file.specs.File.{input_room, header_version, header_size, header_inputs, header_count, Good}
-use Rattle.file.specs.Shown.{is_good, is_accepted, listed}
+use Rattle.file.specs.Shown.{is_good, is_accepted, listed, offsets_in}
 use Rattle.file.proofs.FileLaws.{head-long}
 use Rattle.trace.specs.Trace.{read_trace}
 use Rattle.trace.specs.Shown.{test_kind, symbol_room, loose, held, expr_part, expr_of}
 use Rattle.trace.proofs.Held.{Held}
-use Rattle.trace.proofs.Passes.{tokens_are, known, Passing, pass-start, Passed, pass, pass-end}
+use Rattle.trace.proofs.Passes.{tokens_are, known, pass-end}
+use Rattle.trace.proofs.Standing.{Walking, walking-start, Turn, walking-turn, walking-end}
 use Rattle.write.specs.Splice.{Wrote}
 use Rattle.write.specs.SpliceLaws.{Ahead, ahead_start, ahead_step, ahead_end}
 use Rattle.write.specs.Ascii.{ascii}
@@ -51,56 +52,55 @@ module _ {s : List ℕ} {at : ℕ} (h : Held symbol_room loose s at) {e : List �
 
 -- ---- the loop
 
-pub record Listing (s : List ℕ) (n : ℕ) (out₀ : List ℕ) (to : ℕ) (out : List ℕ) (k at next : ℕ) : Type 0 where
-  pub passing : Passing s k at
+pub record Listing (s : List ℕ) (n : ℕ) (out₀ : List ℕ) (to : ℕ) (out : List ℕ) (k : ℕ) (left : List ℕ) (next : ℕ) : Type 0 where
+  pub walking : Walking s n k left
   pub wrote : Ahead out next (stmt_lines (drop k (listed (read_trace s)))) out₀ to (stmt_lines (listed (read_trace s)))
   pub many : n ≡ header_count s
-  pub count : n ≤ 4096
-  pub little : next ≤ 6 * at
+  pub little : next ≤ 6 * walking.at
 
--- with the code's own size of the header
+-- with the code's own list of offsets
 pub listing_start : (s out : List ℕ) (n to : ℕ) → All Byte s → is_accepted (read_trace s) ≡ true → n ≡ header_count s → to ≤ 36
-    → {at : ℕ} → at ≡ header_size s → Listing s n out to out 0 at to
-listing_start s out n to o h q l front = record {
-  passing = pass-start s o h front;
+    → {left : List ℕ} → left ≡ offsets_in n s → Listing s n out to out 0 left to
+listing_start s out n to o h q l e = record {
+  walking = walking-start s n o h e;
   wrote = ahead_start out to (stmt_lines (listed (read_trace s)));
   many = q;
-  count = omega (arith, (known s h).few);
-  little = omega (arith, front, head-long (header_version s));
+  little = omega (arith, head-long (header_version s));
 }
 
-module _ {s : List ℕ} {n : ℕ} {out₀ : List ℕ} {to : ℕ} {out : List ℕ} {k at next : ℕ} (v : Listing s n out₀ to out k at next) where
-  module _ (h : k < n) where
-    here : Passed s k at
-    here = pass v.passing (omega (arith, v.many))
+module _ {s : List ℕ} {n : ℕ} {out₀ : List ℕ} {to : ℕ} {out : List ℕ} {k : ℕ} {left : List ℕ} {next : ℕ}
+    (v : Listing s n out₀ to out k left next) where
+  -- the next offset is `at`
+  module _ (at : ℕ) (behind : List ℕ) (e : left ≡ at ∷ behind) where
+    here : Turn s n k v.walking.at at behind
+    here = walking-turn v.walking (omega (arith, v.many)) at behind e
+
+    pub listing_low : at < 65536
+    listing_low = omega (arith, here.here.inside, here.here.few)
 
     pub listing_good : is_good (held (drop at s)) ≡ true
-    listing_good = ap is_good here.holds
-
-    pub listing_inside : at + (2 + number_of 2 (drop at s)) ≤ length s
-    listing_inside = here.here.whole
+    listing_good = ap is_good here.passed.holds
 
     -- the letters of the line can be counted
     pub listing_room : next + 6 * (2 + number_of 2 (drop at s)) < 2 ^ 64
-    listing_room = omega (arith, v.little, v.passing.few, listing_inside)
+    listing_room = omega (arith, v.little, here.is, here.here.few, here.passed.here.whole)
 
     pub listing_on : {out' : List ℕ} {next' : ℕ} → Wrote out next (line_in (held (drop at s))) out' next'
-        × (next' ≤ next + 6 * (2 + number_of 2 (drop at s)))
-        → (len : ℕ) → len ≡ number_of 2 (drop at s) → Listing s n out₀ to out' (k + 1) (at + (2 + len)) next'
-    listing_on (w, l) len q = record {
-      passing = here.then len q;
+        × (next' ≤ next + 6 * (2 + number_of 2 (drop at s))) → Listing s n out₀ to out' (k + 1) behind next'
+    listing_on (w, l) = record {
+      walking = here.then;
       wrote =
           ahead_step v.wrote
-          (ap stmt_lines here.split ∙ ap (λ b. line_in b ++ stmt_lines (drop (k + 1) (listed (read_trace s)))) (sym here.holds)) w;
+          (ap stmt_lines here.passed.split
+          ∙ ap (λ b. line_in b ++ stmt_lines (drop (k + 1) (listed (read_trace s)))) (sym here.passed.holds)) w;
       many = v.many;
-      count = v.count;
-      little = omega (arith, v.little);
+      little = omega (arith, v.little, here.is, here.on);
     }
 
-  pub listing_end : n ≤ k → Wrote out₀ to (stmt_lines (listed (read_trace s))) out next × (next ≤ 393210)
-  listing_end h = (
-    ahead_end v.wrote (ap stmt_lines (pass-end v.passing (omega (arith, v.many)))),
-    omega (arith, v.little, v.passing.inside, v.passing.few),
+  pub listing_end : left ≡ [] → Wrote out₀ to (stmt_lines (listed (read_trace s))) out next × (next ≤ 393210)
+  listing_end e = (
+    ahead_end v.wrote (ap stmt_lines (pass-end v.walking.passing (omega (arith, v.many, walking-end v.walking e)))),
+    omega (arith, v.little, v.walking.passing.inside, v.walking.passing.few),
   )
 
 -- ---- the whole text

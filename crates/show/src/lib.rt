@@ -4,13 +4,13 @@
 mod line;
 mod word;
 
-ghost use Rattle.std.specs.Prelude.{◌≡◌, true, ◌≤◌, length};
+ghost use Rattle.std.specs.Prelude.{◌≡◌, ℕ, true, ◌≤◌, ◌^◌, List, length};
 ghost use Rattle.file.specs.Shown.{is_accepted};
 ghost use Rattle.trace.specs.Trace.{read_trace};
 ghost use Rattle.slice.specs.Answer.{slice_answer};
 ghost use Rattle.show.specs.Text.{refusal_text, trace_text, sliced_text};
 ghost use Rattle.show.specs.Answer.{refusal, numbers, SliceShown};
-ghost use Rattle.show.specs.Shown.{Fitted};
+ghost use Rattle.show.specs.Shown.{Puts, Counts, Fitted};
 
 // The answer to showing a slice: a reply and its offset, and the length of the text.
 #[derive(Clone, Copy)]
@@ -37,16 +37,18 @@ fn too_small() -> Answer
     }
 }
 
-// The text of a refusal. It is measured before the first letter is written.
-fn show_refusal(reply: u32, offset: u32, out: &mut [u8]) -> Answer
-    ensures { Fitted (refusal_text reply offset) out.old out.new result }
+// A text, by what writes it into a buffer and counts its letters. It is measured before the first letter is written.
+fn show_text<W: Fn(&mut [u8]) -> usize>(put: W, out: &mut [u8]) -> Answer
+    requires callable { W.IsAlwaysCallable put }
+    requires short { Counts (W.post put) (2 ^ 32) }
+    ensures { (text : List ℕ) → Puts (W.post put) text → Fitted text out.old out.new result }
 {
     let mut one: [u8; 1] = [0; 1];
-    let size = word::put_refusal(reply, offset, &mut one);
+    let size = put(&mut one);
     if out.len() < size {
         return too_small();
     }
-    let length = word::put_refusal(reply, offset, out);
+    let length = put(out);
     Answer {
         reply: 0,
         offset: 0,
@@ -54,22 +56,19 @@ fn show_refusal(reply: u32, offset: u32, out: &mut [u8]) -> Answer
     }
 }
 
-// The text of an accepted trace. It is measured before the first letter is written.
+// The text of a refusal.
+fn show_refusal(reply: u32, offset: u32, out: &mut [u8]) -> Answer
+    ensures { Fitted (refusal_text reply offset) out.old out.new result }
+{
+    show_text(|b: &mut [u8]| word::put_refusal(reply, offset, b), out)
+}
+
+// The text of an accepted trace.
 fn show_trace(trace: &[u8], out: &mut [u8]) -> Answer
     requires { is_accepted (read_trace trace.now) ≡ true }
     ensures { Fitted (trace_text (read_trace trace.now)) out.old out.new result }
 {
-    let mut one: [u8; 1] = [0; 1];
-    let size = line::put_slice(trace, &mut one);
-    if out.len() < size {
-        return too_small();
-    }
-    let length = line::put_slice(trace, out);
-    Answer {
-        reply: 0,
-        offset: 0,
-        length: length as u32,
-    }
+    show_text(|b: &mut [u8]| line::put_slice(trace, b), out)
 }
 
 // The text of the slice of an accepted trace.

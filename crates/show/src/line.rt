@@ -12,6 +12,7 @@ ghost use Rattle.show.specs.Shown.{line_in};
 use super::word;
 use expr::number;
 use trace::read;
+use trace::records::Records;
 
 // The line of the record at a place. No line has more letters than six for each of the record's bytes.
 fn put_line(trace: &[u8], at: usize, out: &mut [u8], to: usize) -> usize
@@ -54,13 +55,9 @@ fn put_lines(trace: &[u8], n: usize, out: &mut [u8], to: usize) -> usize
     ensures { Wrote out.old to (stmt_lines (listed (read_trace trace.now))) out.new result
         × (result ≤ 393210) }
 {
-    let mut k: usize = 0;
-    let mut at = file::header_size(trace);
     let mut next = to;
-    while k < n {
+    for at in Records::first(trace, n) {
         next = put_line(trace, at, &mut *out, next);
-        at += 2 + number::two_at(trace, at);
-        k += 1;
     }
     next
 }

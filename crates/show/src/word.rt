@@ -29,13 +29,11 @@ pub fn put_kind(kind: u8, out: &mut [u8], at: usize) -> usize
     requires { at + 7 < 2 ^ 64 }
     ensures { Wrote out.old at (ascii " " ++ ascii (kind_name (test_kind kind))) out.new result × (result ≤ at + 7) }
 {
-    if kind == 3 {
-        return write::fit_part(b" assert", out, at);
+    match kind {
+        3 => write::fit_part(b" assert", out, at),
+        4 => write::fit_part(b" bound", out, at),
+        _ => write::fit_part(b" assume", out, at),
     }
-    if kind == 4 {
-        return write::fit_part(b" bound", out, at);
-    }
-    write::fit_part(b" assume", out, at)
 }
 
 // An operator's name.

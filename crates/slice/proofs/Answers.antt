@@ -24,7 +24,7 @@ use Rattle.slice.proofs.SliceLaws.{slice_smaller}
 use Rattle.slice.specs.Mask.{mask_of, input_mask}
 use Rattle.slice.specs.MaskLaws.{mask-same}
 use Rattle.slice.specs.Answer.{refusal, slice_of, answered, slice_answer, numbers, SliceWritten}
-use Rattle.slice.specs.Shown.{in_set, kept, WalkedBack}
+use Rattle.slice.specs.Shown.{kept, WalkedBack}
 use Rattle.slice.proofs.Walk.{records-small}
 
 -- ---- a refusal leaves the buffer
@@ -39,7 +39,7 @@ module _ (s out : List ℕ) where
 
 -- ---- the slice is found
 
-module _ (s : List ℕ) (is : read_trace s ≡ Accepted (head_of s) (listed (read_trace s))) (flags : List Bool) (needed : List ℕ) (k : Kept)
+module _ (s : List ℕ) (is : read_trace s ≡ Accepted (head_of s) (listed (read_trace s))) (flags : List Bool) (needed : ℕ → Bool) (k : Kept)
     (w : WalkedBack (listed (read_trace s)) flags needed k) where
   abbrev head : Head
   head = head_of s
@@ -78,13 +78,13 @@ module _ (s : List ℕ) (is : read_trace s ≡ Accepted (head_of s) (listed (rea
 
       -- and number of inputs
       pub slice_written : {out' : List ℕ} {end : ℕ} → Wrote p to (records_bytes stmt_bytes (kept flags (listed (read_trace s)))) out' end
-          → {S : ℕ} → S ≡ header_inputs s → (mask : ℕ) → mask ≡ mask_of S (in_set needed)
+          → {S : ℕ} → S ≡ header_inputs s → (mask : ℕ) → mask ≡ mask_of S needed
           → SliceWritten s out out' (record { reply = 0; offset = 0; length = size + k.size; mask = mask; inputs = ones mask })
       slice_written v i mask m =
           let a = sliced true (le-leb (length (encode_trace head (slice ts))) (length out) (omega (arith, total))) in
           let reads : mask ≡ input_mask (header_inputs s) (slice ts)
-          = m ∙ ap (λ S. mask_of S (in_set needed)) i
-          ∙ mask-same (header_inputs s) (in_set needed) (λ x. reads_trace x (slice ts)) (λ x l. w.reads x) in
+          = m ∙ ap (λ S. mask_of S needed) i
+          ∙ mask-same (header_inputs s) needed (λ x. reads_trace x (slice ts)) (λ x l. w.reads x) in
           record {
             answer =
                 ap₂ {C = Answer} (λ n mask. record { reply = 0; offset = 0; length = n; mask = mask; inputs = ones mask }) (sym total)

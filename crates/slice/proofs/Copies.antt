@@ -49,29 +49,29 @@ kept-first false t us = refl
 
 module _ {ts : List Stmt} {flags : List Bool} {out₀ : List ℕ} {to : ℕ} {out : List ℕ} {k at : ℕ} (w : Copying ts flags out₀ to out k at)
   where
-    module _ (t : Stmt) (xs : List Stmt) (here : drop k ts ≡ t ∷ xs) (l : k < length flags) (b : Body Stmt) (g : b ≡ Good t) where
-      split : records_bytes stmt_bytes (kept (drop k flags) (drop k ts)) ≡ kept_bytes (get_or flags k false) b ++ records_bytes stmt_bytes
+    module _ (t : Stmt) (xs : List Stmt) (here : drop k ts ≡ t ∷ xs) (l : k < length flags) {keep : Bool} (f : keep ≡ get_or flags k false)
+        {b : Body Stmt} (g : b ≡ Good t) where
+      split : records_bytes stmt_bytes (kept (drop k flags) (drop k ts)) ≡ kept_bytes keep b ++ records_bytes stmt_bytes
           (kept (drop (k + 1) flags) (drop (k + 1) ts))
       split =
           let rest : xs ≡ drop (k + 1) ts = sym (sym (drop-drop 1 k ts) ∙ ap (drop 1) here) in
-          ap₂ (λ fs us. records_bytes stmt_bytes (kept fs us)) (drop-cons flags k false l) here
-          ∙ kept-first (get_or flags k false) t (kept (drop (suc k) flags) xs)
-          ∙ ap₂ (λ c us. kept_bytes (get_or flags k false) c ++ records_bytes stmt_bytes us) (sym g)
+          ap₂ (λ fs us. records_bytes stmt_bytes (kept fs us))
+          (drop-cons flags k false l ∙ ap (λ c. c ∷ drop (suc k) flags) (sym f)) here
+          ∙ kept-first keep t (kept (drop (suc k) flags) xs)
+          ∙ ap₂ (λ c us. kept_bytes keep c ++ records_bytes stmt_bytes us) (sym g)
           (ap₂ kept (ap (λ j. drop j flags) (sym (add-one k))) rest)
 
-      pub copy_room : to + length (records_bytes stmt_bytes (kept flags ts)) ≤ length out₀ → at
-          + length (kept_bytes (get_or flags k false) b)
-          ≤ length out
+      pub copy_room : to + length (records_bytes stmt_bytes (kept flags ts)) ≤ length out₀
+          → at + length (kept_bytes keep b) ≤ length out
       copy_room r =
           omega (
             arith,
             ahead_room w.wrote r,
             ap length split,
-            length-append (kept_bytes (get_or flags k false) b)
-                (records_bytes stmt_bytes (kept (drop (k + 1) flags) (drop (k + 1) ts))),
+            length-append (kept_bytes keep b) (records_bytes stmt_bytes (kept (drop (k + 1) flags) (drop (k + 1) ts))),
           )
 
-      pub copy_on : k < length ts → {out' : List ℕ} {at' : ℕ} → Wrote out at (kept_bytes (get_or flags k false) b) out' at'
+      pub copy_on : k < length ts → {out' : List ℕ} {at' : ℕ} → Wrote out at (kept_bytes keep b) out' at'
           → Copying ts flags out₀ to out' (k + 1) at'
       copy_on h v = record { inside = omega arith; wrote = ahead_step w.wrote split v }
 

@@ -16,9 +16,15 @@ use Rattle.expr.specs.Word.{test, bit}
 use Rattle.expr.specs.WordLaws.{or_number-bit}
 use Rattle.expr.specs.OperatorLaws.{moved_bit, bit_moved_in}
 use Rattle.file.proofs.FileLaws.{same_everywhere}
-use Rattle.slice.specs.Shown.{in_set, room_in}
+use Rattle.trace.specs.Shown.{symbol_room}
+use Rattle.slice.specs.declared.sets.Symbols.{Symbols}
+use Rattle.slice.specs.Shown.{in_set}
 
-pub in_clear : (n x : ℕ) → in_set (replicate n 0) x ≡ false
+-- the set that the words are
+abbrev pub of_words : List ℕ → Symbols
+of_words ws = record { words = ws }
+
+pub in_clear : (n x : ℕ) → in_set (of_words (replicate n 0)) x ≡ false
 unfolding in_set
 in_clear n x =
     ap (λ w. eqb (bit (x % 64) w) 1) (same_everywhere n 0 (x / 64)) ∙ ap (λ q. eqb (q % 2) 1) (zero-div (2 ^ (x % 64)))
@@ -49,28 +55,23 @@ either-bit false (suc (suc n)) l = absurd (omega arith)
 
 -- ---- the set
 
--- a set that is as long has as much room
-pub same-room : (s t : List ℕ) → length s ≡ length t → room_in s ≡ room_in t
-unfolding room_in
-same-room s t e = ap (λ n. 64 * n) e
-
 -- a symbol's word is there
-pub inside : (s : List ℕ) (k : ℕ) → k < room_in s → k / 64 < length s
-unfolding room_in
-inside s k h = omega arith
+pub inside : (k : ℕ) → k < symbol_room → k / 64 < 65
+unfolding symbol_room
+inside k h = omega arith
 
-module _ (s : List ℕ) (k : ℕ) (h : k < room_in s) (x : ℕ) where
+module _ (s : List ℕ) (k : ℕ) (l : length s ≡ 65) (h : k < symbol_room) (x : ℕ) where
   abbrev marked : List ℕ
   marked = set s (k / 64) (bit_or (get_or s (k / 64) 0) (1 * 2 ^ (k % 64) % 2 ^ 64))
 
   -- in the symbol's word
-  same_word : x / 64 ≡ k / 64 → in_set marked x ≡ (eqb x k || in_set s x)
+  same_word : x / 64 ≡ k / 64 → in_set (of_words marked) x ≡ (eqb x k || in_set (of_words s) x)
   unfolding in_set
   same_word e =
       let w = get_or s (k / 64) 0 in
       let i = x % 64 in
       ap (λ q. eqb (bit (x % 64) (get_or marked q 0)) 1) e
-      ∙ ap (λ n. eqb (bit (x % 64) n) 1) (get_or-set_same s (k / 64) _ 0 (inside s k h))
+      ∙ ap (λ n. eqb (bit (x % 64) n) 1) (get_or-set_same s (k / 64) _ 0 (omega (arith, inside k h)))
       ∙ ap (λ n. eqb n 1) (or_number-bit i w (1 * 2 ^ (k % 64) % 2 ^ 64) ∙ ap (max (bit i w)) (one_bit i (k % 64) (omega arith)))
       ∙ either-bit (eqb (x % 64) (k % 64)) (bit i w) (omega arith)
       ∙ ap₂ (λ b q. b || eqb (bit (x % 64) (get_or s q 0)) 1) same_rest (sym e)
@@ -82,15 +83,15 @@ module _ (s : List ℕ) (k : ℕ) (h : k < room_in s) (x : ℕ) where
           go true q = eq-eqb (x % 64) (k % 64) (ap (λ n. n % 64) (eqb-true x k q))
           go false q = let n : x ≡ k → ⊥ = eqb-false x k q in ne_eqb (x % 64) (k % 64) (λ m. n (omega arith))
 
-  other_word : (x / 64 ≡ k / 64 → ⊥) → in_set marked x ≡ (eqb x k || in_set s x)
+  other_word : (x / 64 ≡ k / 64 → ⊥) → in_set (of_words marked) x ≡ (eqb x k || in_set (of_words s) x)
   unfolding in_set
   other_word n =
       ap (λ w. eqb (bit (x % 64) w) 1) (get_or-set_other s (k / 64) (x / 64) _ 0 n)
       ∙ sym (ap (λ b. b || eqb (bit (x % 64) (get_or s (x / 64) 0)) 1) (ne_eqb x k (λ e. n (ap (λ n. n / 64) e))))
 
-  pub in_marked : in_set (set s (k / 64) (bit_or (get_or s (k / 64) 0) (1 * 2 ^ (k % 64) % 2 ^ 64))) x ≡ (eqb x k || in_set s x)
+  pub in_marked : in_set (of_words (set s (k / 64) (bit_or (get_or s (k / 64) 0) (1 * 2 ^ (k % 64) % 2 ^ 64)))) x ≡ (eqb x k || in_set (of_words s) x)
   in_marked = go (eqb (x / 64) (k / 64)) refl
     where
-      go : (b : Bool) → eqb (x / 64) (k / 64) ≡ b → in_set marked x ≡ (eqb x k || in_set s x)
+      go : (b : Bool) → eqb (x / 64) (k / 64) ≡ b → in_set (of_words marked) x ≡ (eqb x k || in_set (of_words s) x)
       go true e = same_word (eqb-true (x / 64) (k / 64) e)
       go false e = other_word (eqb-false (x / 64) (k / 64) e)

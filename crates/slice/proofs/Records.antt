@@ -27,7 +27,7 @@ use Rattle.trace.proofs.Held.{Held}
 use Rattle.trace.proofs.Moves.{expr-whole}
 use Rattle.slice.specs.declared.back.Kept.{Kept}
 use Rattle.trace.specs.Asserts.{is_assert}
-use Rattle.slice.specs.Shown.{in_set, reads_in, keep_in, asserts_in, Stepped}
+use Rattle.slice.specs.Shown.{reads_in, keep_in, asserts_in, Stepped}
 
 module _ {s : List ℕ} {at : ℕ} (h : Held symbol_room loose s at) where
   assign-is : get_or s (at + 2) 0 ≡ 1 → held (drop at s)
@@ -73,20 +73,19 @@ module _ {s : List ℕ} {at : ℕ} (h : Held symbol_room loose s at) where
 
   -- ---- what it reads
 
-  -- with the code's own number of symbols
-  pub reads-marked : (T : ℕ) → T ≡ symbol_room → {e : List ℕ} → e ≡ expr_part s at → (needed needed' : List ℕ)
-      → ((x : ℕ) → in_set needed' x ≡ (reads x (tokens_of (parse Trace (below T) e)) || in_set needed x))
-      → (x : ℕ) → in_set needed' x ≡ (reads_in x (held (drop at s)) || in_set needed x)
-  reads-marked T t q needed needed' m x =
+  pub reads-marked : {e : List ℕ} → e ≡ expr_part s at → (needed needed' : ℕ → Bool)
+      → ((x : ℕ) → needed' x ≡ (reads x (tokens_of (parse Trace (below symbol_room) e)) || needed x))
+      → (x : ℕ) → needed' x ≡ (reads_in x (held (drop at s)) || needed x)
+  reads-marked q needed needed' m x =
       m x
-      ∙ ap (λ p. reads x (tokens_of p) || in_set needed x) (expr-whole h T t q)
-      ∙ sym (ap (λ b. reads_in x b || in_set needed x) h.is)
+      ∙ ap (λ p. reads x (tokens_of p) || needed x) (expr-whole h symbol_room refl q)
+      ∙ sym (ap (λ b. reads_in x b || needed x) h.is)
 
   -- ---- one step back
 
-  module _ (k : ℕ) (behind : Kept) (kept : List Bool) (needed : List ℕ) (b : Bool)
-      (q : b ≡ keep_in behind.asserts (in_set needed) (held (drop at s))) where
-    pub stepped_kept : b ≡ true → (needed' : List ℕ) → ((x : ℕ) → in_set needed' x ≡ (reads_in x (held (drop at s)) || in_set needed x))
+  module _ (k : ℕ) (behind : Kept) (kept : List Bool) (needed : ℕ → Bool) (b : Bool)
+      (q : b ≡ keep_in behind.asserts needed (held (drop at s))) where
+    pub stepped_kept : b ≡ true → (needed' : ℕ → Bool) → ((x : ℕ) → needed' x ≡ (reads_in x (held (drop at s)) || needed x))
         → (a : Bool) → a ≡ (eqb (get_or s (at + 2) 0) 3 || behind.asserts) → (len : ℕ) → len ≡ number_of 2 (drop at s)
         → Stepped (held (drop at s)) (2 + number_of 2 (drop at s)) k behind kept needed (set kept k true) needed'
         (record { asserts = a; count = behind.count + 1; size = behind.size + (2 + len) })

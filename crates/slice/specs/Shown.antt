@@ -1,5 +1,6 @@
 -- What the code's values mean: its answers as functions of the definitions.
-use Rattle.std.specs.Prelude.{ℕ, ◌+◌, ◌*◌, ◌/◌, ◌%◌, ◌≡◌, Bool, true, false, cond, ◌||◌, List, [], ◌∷◌, length, get_or, set, eqb}
+use Rattle.std.specs.Prelude.{ℕ, ◌+◌, ◌/◌, ◌%◌, ◌≡◌, Bool, true, false, cond, ◌||◌, List, [], ◌∷◌, length, get_or, set, eqb}
+use Rattle.std.specs.Prelude.{Result, Ok, Err}
 use Rattle.expr.specs.Word.{bit}
 use Rattle.expr.specs.Eval.{reads}
 use Rattle.file.specs.File.{Body, Good, Bad, record_bytes, records_bytes}
@@ -7,17 +8,18 @@ use Rattle.trace.specs.Trace.{Stmt, Assign, Test, reads_trace, stmt_bytes}
 use Rattle.trace.specs.Shown.{expr_of}
 use Rattle.trace.specs.Asserts.{is_assert}
 use Rattle.slice.specs.Slice.{slice}
+use Rattle.file.specs.Shown.{reply_of}
+use Rattle.file.specs.declared.Refusal.{Refusal}
+use Rattle.slice.specs.Answer.{refusal, numbers}
+use Rattle.slice.specs.declared.Answer.{Answer}
 use Rattle.slice.specs.declared.back.Kept.{Kept}
+use Rattle.slice.specs.declared.sets.Symbols.{Symbols}
 
 -- ---- a set of symbols
 
 -- symbol x is bit x % 64 of word x / 64
-unfoldable pub in_set : (set : List ℕ) (x : ℕ) → Bool
-in_set set x = eqb (bit (x % 64) (get_or set (x / 64) 0)) 1
-
--- for how many symbols it has room
-unfoldable pub room_in : (set : List ℕ) → ℕ
-room_in set = 64 * length set
+unfoldable pub in_set : (set : Symbols) (x : ℕ) → Bool
+in_set set x = eqb (bit (x % 64) (get_or set.words (x / 64) 0)) 1
 
 -- ---- a statement that a record holds
 
@@ -42,13 +44,13 @@ asserts_in (Bad r) = false
 -- ---- the walk back
 
 -- the statement k, which is b, of whose bytes its record has `size`
-pub record Stepped (b : Body Stmt) (size k : ℕ) (behind : Kept) (kept : List Bool) (needed : List ℕ) (kept' : List Bool)
-    (needed' : List ℕ) (r : Kept) : Type 0 where
+pub record Stepped (b : Body Stmt) (size k : ℕ) (behind : Kept) (kept : List Bool) (needed : ℕ → Bool) (kept' : List Bool)
+    (needed' : ℕ → Bool) (r : Kept) : Type 0 where
   pub asserts : r.asserts ≡ (asserts_in b || behind.asserts)
-  pub keeps : (keep_in behind.asserts (in_set needed) b ≡ true) → (kept' ≡ set kept k true) × (r.count ≡ behind.count + 1)
+  pub keeps : (keep_in behind.asserts needed b ≡ true) → (kept' ≡ set kept k true) × (r.count ≡ behind.count + 1)
       × (r.size ≡ behind.size + size)
-      × ((x : ℕ) → in_set needed' x ≡ (reads_in x b || in_set needed x))
-  pub drops : (keep_in behind.asserts (in_set needed) b ≡ false) → (kept' ≡ kept) × (r.count ≡ behind.count) × (r.size ≡ behind.size)
+      × ((x : ℕ) → needed' x ≡ (reads_in x b || needed x))
+  pub drops : (keep_in behind.asserts needed b ≡ false) → (kept' ≡ kept) × (r.count ≡ behind.count) × (r.size ≡ behind.size)
       × (needed' ≡ needed)
 
 -- those of the statements whose entries are set
@@ -57,13 +59,20 @@ kept [] ts = []
 kept (b ∷ flags) [] = []
 kept (b ∷ flags) (t ∷ ts) = cond b (t ∷ kept flags ts) (kept flags ts)
 
-pub record WalkedBack (ts : List Stmt) (flags : List Bool) (needed : List ℕ) (r : Kept) : Type 0 where
+pub record WalkedBack (ts : List Stmt) (flags : List Bool) (needed : ℕ → Bool) (r : Kept) : Type 0 where
   pub those : kept flags ts ≡ slice ts
   pub count : r.count ≡ length (slice ts)
   pub size : r.size ≡ length (records_bytes stmt_bytes (slice ts))
-  pub reads : (x : ℕ) → in_set needed x ≡ reads_trace x (slice ts)
+  pub reads : (x : ℕ) → needed x ≡ reads_trace x (slice ts)
 
 -- the bytes of a record that is kept, none of another
 abbrev pub kept_bytes : (keep : Bool) → Body Stmt → List ℕ
 kept_bytes keep (Good t) = cond keep (record_bytes stmt_bytes t) []
 kept_bytes keep (Bad r) = []
+
+-- ---- the answer
+
+-- that of a slice that is written, or of a refusal
+abbrev pub answer_in : Result Answer Refusal → Answer
+answer_in (Ok a) = a
+answer_in (Err f) = numbers (refusal (reply_of f.reason) f.offset)

@@ -3,10 +3,11 @@ ghost use Rattle.std.specs.Prelude.{◌≡◌, true, false, ◌||◌, ℕ, ◌+�
 ghost use Rattle.expr.specs.Number.{number_of};
 ghost use Rattle.file.specs.Shown.{is_good, listed};
 ghost use Rattle.trace.specs.Trace.{read_trace};
-ghost use Rattle.trace.specs.Shown.{symbol_room, held, Ready};
-ghost use Rattle.slice.specs.Shown.{in_set, room_in, keep_in, reads_in, Stepped, WalkedBack};
+ghost use Rattle.trace.specs.Shown.{held, Ready};
+ghost use Rattle.slice.specs.Shown.{in_set, keep_in, reads_in, Stepped, WalkedBack};
 
-use super::{reads, sets};
+use super::reads;
+use super::sets::Symbols;
 use expr::number;
 use trace::read;
 
@@ -19,38 +20,25 @@ pub struct Kept {
 }
 
 // Whether the statement at a place is kept, where `asserts` says if an Assert follows it.
-fn keeps(trace: &[u8], at: usize, asserts: bool, needed: &[u64]) -> bool
-    requires { (at < 65536) × (room_in needed.now ≡ symbol_room) × (is_good (held (drop at trace.now)) ≡ true) }
+fn keeps(trace: &[u8], at: usize, asserts: bool, needed: &Symbols) -> bool
+    requires { (at < 65536) × (is_good (held (drop at trace.now)) ≡ true) }
     ensures { result ≡ keep_in asserts (in_set needed.now) (held (drop at trace.now)) }
 {
     let kind = trace[at + 2];
     if kind == 1 {
         let symbol = number::two_at(trace, at + 5);
-        return sets::ask(symbol, needed);
+        return needed.contains(symbol);
     }
-    if kind == 3 {
-        return true;
-    }
-    asserts
+    kind == 3 || asserts
 }
 
 // The symbols that the statement at a place reads become needed.
-fn mark_record(trace: &[u8], at: usize, needed: &mut [u64])
-    requires { (at < 65536) × (room_in needed.old ≡ symbol_room) × (is_good (held (drop at trace.now)) ≡ true) }
+fn mark_record(trace: &[u8], at: usize, needed: &mut Symbols)
+    requires { (at < 65536) × (is_good (held (drop at trace.now)) ≡ true) }
     ensures { (x : ℕ) → in_set needed.new x
         ≡ (reads_in x (held (drop at trace.now)) || in_set needed.old x) }
 {
     reads::mark_reads(read::expr_at(trace, at), needed);
-}
-
-// Whether an Assert is among a statement of this kind and those behind it.
-fn has_assert(kind: u8, asserts: bool) -> bool
-    ensures { result ≡ (eqb kind 3 || asserts) }
-{
-    if kind == 3 {
-        return true;
-    }
-    asserts
 }
 
 // The statement k, whose record stands at a place.
@@ -60,19 +48,18 @@ fn step_back(
     k: usize,
     behind: Kept,
     kept: &mut [bool],
-    needed: &mut [u64],
+    needed: &mut Symbols,
 ) -> Kept
-    requires { (at < 65536) × (room_in needed.old ≡ symbol_room) × (k < length kept.old) × (behind.count ≤ 4096)
-        × (behind.size < 65536)
+    requires { (at < 65536) × (k < length kept.old) × (behind.count ≤ 4096) × (behind.size < 65536)
         × (is_good (held (drop at trace.now)) ≡ true) }
     ensures { Stepped (held (drop at trace.now)) (2 + number_of 2 (drop at trace.now)) k behind
-        kept.old needed.old kept.new needed.new result }
+        kept.old (in_set needed.old) kept.new (in_set needed.new) result }
 {
     if keeps(trace, at, behind.asserts, &*needed) {
         mark_record(trace, at, needed);
         kept[k] = true;
         return Kept {
-            asserts: has_assert(trace[at + 2], behind.asserts),
+            asserts: trace[at + 2] == 3 || behind.asserts,
             count: behind.count + 1,
             size: behind.size + (2 + number::two_at(trace, at)),
         };
@@ -81,27 +68,18 @@ fn step_back(
 }
 
 // Sets the entries of the kept statements, and marks the symbols that they read.
-pub fn walk_back(
-    trace: &[u8],
-    offsets: &[u16],
-    n: usize,
-    kept: &mut [bool],
-    needed: &mut [u64],
-) -> Kept
-    requires { Ready trace.now offsets.now n × (n ≤ length kept.old) × (room_in needed.old ≡ symbol_room)
+pub fn walk_back(trace: &[u8], offsets: &[u16], kept: &mut [bool], needed: &mut Symbols) -> Kept
+    requires { Ready trace.now offsets.now (length offsets.now) × (length offsets.now ≤ length kept.old)
         × ((x : ℕ) → in_set needed.old x ≡ false) × ((x : ℕ) → get_or kept.old x false ≡ false) }
-    ensures { WalkedBack (listed (read_trace trace.now)) kept.new needed.new result }
+    ensures { WalkedBack (listed (read_trace trace.now)) kept.new (in_set needed.new) result }
 {
-    let mut k = n;
     let mut behind = Kept {
         asserts: false,
         count: 0,
         size: 0,
     };
-    while 0 < k {
-        k -= 1;
-        let at = offsets[k] as usize;
-        behind = step_back(trace, at, k, behind, &mut *kept, &mut *needed);
+    for (k, &at) in offsets.iter().enumerate().rev() {
+        behind = step_back(trace, at as usize, k, behind, &mut *kept, &mut *needed);
     }
     behind
 }

@@ -20,25 +20,15 @@ fn copy_record(trace: &[u8], at: usize, keep: bool, out: &mut [u8], to: usize) -
 }
 
 // The records whose entries are set.
-pub fn copy_kept(
-    trace: &[u8],
-    offsets: &[u16],
-    n: usize,
-    flags: &[bool],
-    out: &mut [u8],
-    to: usize,
-) -> usize
-    requires { Ready trace.now offsets.now n × (n ≤ length flags.now)
+pub fn copy_kept(trace: &[u8], offsets: &[u16], flags: &[bool], out: &mut [u8], to: usize) -> usize
+    requires { Ready trace.now offsets.now (length offsets.now) × (length offsets.now ≤ length flags.now)
         × (to + length (records_bytes stmt_bytes (kept flags.now (listed (read_trace trace.now)))) ≤ length out.old) }
     ensures { Wrote out.old to
         (records_bytes stmt_bytes (kept flags.now (listed (read_trace trace.now)))) out.new result }
 {
-    let mut k: usize = 0;
     let mut at = to;
-    while k < n {
-        let from = offsets[k] as usize;
-        at = copy_record(trace, from, flags[k], &mut *out, at);
-        k += 1;
+    for (&from, &keep) in offsets.iter().zip(flags) {
+        at = copy_record(trace, from as usize, keep, &mut *out, at);
     }
     at
 }

@@ -11,10 +11,12 @@ use Rattle.expr.specs.Lists.{All}
 use Rattle.expr.specs.Number.{Byte}
 use Rattle.expr.specs.Eval.{env_of}
 use Rattle.file.specs.File.{Head, header_inputs, header_count, head_of, header_reply, Body, Accepted, Refused}
-use Rattle.file.specs.Shown.{listed}
+use Rattle.file.specs.Shown.{reply_of, listed}
 use Rattle.file.proofs.FileLaws.{Header}
 use Rattle.file.proofs.ReadingLaws as Reading
-use Rattle.file.specs.declared.Reading.{Reading}
+use Rattle.std.specs.Prelude.{Result, Ok, Err}
+use Rattle.file.specs.declared.Reason.{Reason}
+use Rattle.file.specs.declared.Refusal as Code
 use Rattle.table.specs.Table.{Instr, instr, is_table, read_table}
 use Rattle.table.specs.TableLaws.{instr-low}
 use Rattle.table.specs.Run.{run_from, run}
@@ -33,40 +35,40 @@ abbrev first : (head : Head) → Unit {0}
 first head = tt
 
 module _ (s : List ℕ) where
-  pub header_read : (r : ℕ) → r ≡ header_reply is_table 1024 s → (r ≡ 0 → ⊥) → (off : List ℕ)
-      → ReadTable s off off (record { reply = r; offset = 0; count = 0 })
+  pub header_read : (reason : Reason) → reply_of reason ≡ header_reply is_table 1024 s → (off : List ℕ)
+      → ReadTable s off off (Err (record { reason = reason; offset = 0 }))
   unfolding read_table
   header_read = Reading.header_read is_table 1024 one next first s
 
   -- with the code's own numbers of inputs and records
   pub records-read : header_reply is_table 1024 s ≡ 0 → {S n : ℕ} → S ≡ header_inputs s → n ≡ header_count s
-      → {off off' : List ℕ} {r : Reading}
+      → {off off' : List ℕ} {r : Result ℕ Code.Refusal}
       → ReadRecords s S n off off' r → ReadTable s off off' r
   unfolding read_table
   records-read h {S} {n} i e {off} {off'} {r} w = Reading.records-read is_table 1024 one next first s h
       (subst (λ n. ReadRecords s (header_inputs s) n off off' r) e (subst (λ S. ReadRecords s S n off off' r) i w))
 
-module _ {s off off' : List ℕ} {r : Reading} (w : ReadTable s off off' r) where
-  pub offset-small : All Byte s → r.offset < 65536
+module _ (s : List ℕ) {off off' : List ℕ} where
+  pub offset-small : {f : Code.Refusal} → ReadTable s off off' (Err f) → All Byte s → f.offset < 65536
   unfolding read_table
-  offset-small = Reading.offset-small is_table 1024 one next first s w
+  offset-small = Reading.offset-small is_table 1024 one next first s
 
-  module _ (h : r.reply ≡ 0) where
+  module _ {m : ℕ} (w : ReadTable s off off' (Ok m)) where
     pub table-accepted : read_table s ≡ Accepted (head_of s) (listed (read_table s))
     unfolding read_table
-    table-accepted = Reading.is-accepted is_table 1024 one next first s w (λ head n u. instr-low head.inputs n) h
+    table-accepted = Reading.is-accepted is_table 1024 one next first s w (λ head n u. instr-low head.inputs n)
 
     pub right-header : Header is_table 1024 s
     unfolding read_table
-    right-header = Reading.right-header is_table 1024 one next first s w (λ head n u. instr-low head.inputs n) h
+    right-header = Reading.right-header is_table 1024 one next first s w (λ head n u. instr-low head.inputs n)
 
     pub many : length (listed (read_table s)) ≡ header_count s
     unfolding read_table
-    many = Reading.many is_table 1024 one next first s w (λ head n u. instr-low head.inputs n) h
+    many = Reading.many is_table 1024 one next first s w (λ head n u. instr-low head.inputs n)
 
-    pub is-ready : 1024 ≤ length off → Ready s off' r.count
+    pub is-ready : 1024 ≤ length off → Ready s off' m
     unfolding read_table
-    is-ready = Reading.is-ready is_table 1024 one next first s w (λ head n u. instr-low head.inputs n) h
+    is-ready = Reading.is-ready is_table 1024 one next first s w (λ head n u. instr-low head.inputs n)
 
 -- ---- the answer
 

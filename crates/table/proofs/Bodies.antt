@@ -4,6 +4,7 @@ use native.Mathlib.Omega.{arith}
 use mathlib.Core.Path.{◌≡◌, ap, ◌∙◌}
 use mathlib.Core.List.{List}
 use lib.ListN.{length, drop, get_or, length-drop}
+use Rattle.std.proofs.Math.Decide.{dec_lt}
 use lib.Seq.{drop-drop}
 use borrow.Author.Tests.{lt-ltb, le-ltb, le-leb, lt-leb}
 use Rattle.expr.specs.declared.File.TheVariants.{Table}
@@ -11,8 +12,7 @@ use Rattle.expr.specs.Number.{number_of}
 use Rattle.expr.specs.Expr.{below, parse}
 use Rattle.file.specs.Outcome.{Assume, Assert}
 use Rattle.file.specs.File.{AtRecord, rule, holding}
-use Rattle.file.specs.declared.Fault.{Fault}
-use Rattle.file.specs.Shown.{fault_at, fault_of, expr_fault}
+use Rattle.file.specs.Shown.{Fault, fault_at, fault_of, expr_fault}
 use Rattle.file.proofs.FileLaws.{field_there, field_missing, fault_holding}
 use Rattle.table.specs.Table.{Assign, Test, IfThenGoto, assign, if_then_goto, instr}
 use Rattle.table.specs.TableLaws.{kind-assign, kind-assume, kind-assert, kind_goto, kind-unknown}
@@ -65,13 +65,17 @@ module _ (S n : ℕ) (body : List ℕ) (h : 0 < length body) where
       (le-leb (number_of 2 rest) n r))
       ∙ fault_holding (length body) (IfThenGoto (number_of 2 rest)) (parse Table (below S) (drop 3 body))
 
-  pub assume-expr : get_or body 0 0 ≡ 2 → wrong ≡ expr_fault (length body) (parse Table (below S) (drop 1 body))
+  assume-expr : get_or body 0 0 ≡ 2 → wrong ≡ expr_fault (length body) (parse Table (below S) (drop 1 body))
   assume-expr e =
       ap (fault_of (length body)) (kind-assume S n body h e) ∙ fault_holding (length body) (Test Assume) (parse Table (below S) rest)
 
-  pub assert-expr : get_or body 0 0 ≡ 3 → wrong ≡ expr_fault (length body) (parse Table (below S) (drop 1 body))
+  assert-expr : get_or body 0 0 ≡ 3 → wrong ≡ expr_fault (length body) (parse Table (below S) (drop 1 body))
   assert-expr e =
       ap (fault_of (length body)) (kind-assert S n body h e) ∙ fault_holding (length body) (Test Assert) (parse Table (below S) rest)
+
+  pub test-expr : 2 ≤ get_or body 0 0 → get_or body 0 0 ≤ 3 → wrong ≡ expr_fault (length body) (parse Table (below S) (drop 1 body))
+  test-expr a b =
+      elim (dec_lt (get_or body 0 0) 3) [ yes l ↦ assume-expr (omega arith) | no l ↦ assert-expr (omega arith) ]
 
   pub unknown : (get_or body 0 0 ≡ 1 → ⊥) → (get_or body 0 0 ≡ 2 → ⊥) → (get_or body 0 0 ≡ 3 → ⊥) → (get_or body 0 0 ≡ 4 → ⊥)
       → wrong ≡ fault_at (length body) (AtRecord 5)

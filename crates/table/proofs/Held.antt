@@ -16,7 +16,9 @@ use Rattle.file.specs.Shown.{is_good, kind_of, rest_of}
 use Rattle.file.proofs.RecordLaws.{read-body, body-length, body_some, body-inside, body-part, body-kind, body-number}
 use Rattle.table.specs.Table.{Instr, Assign, Test, IfThenGoto, instr}
 use Rattle.table.specs.TableLaws.{Says, says-assign, says-assume, says-assert, says_goto, says}
-use Rattle.table.specs.Shown.{expr_start, expr_part, expr_of}
+use Rattle.table.specs.Shown.{expr_start, expr_part, action_at, action_of, expr_of}
+use Rattle.table.specs.declared.read.Action.{Action}
+use Rattle.table.specs.declared.read.Action.TheVariants as A
 
 -- ---- the record at an offset
 
@@ -27,6 +29,8 @@ pub record Held (T n : ℕ) (s : List ℕ) (at : ℕ) : Type 0 where
   pub kind-there : at + 2 < length s
   pub starts : expr_start (get_or s (at + 2) 0) ≤ 2 + number_of 2 (drop at s)
   pub parsed : parse Table (below T) (expr_part s at) ≡ Whole (expr_of instruction)
+  pub acts : action_at s at ≡ action_of instruction
+  pub symbols : (y : ℕ) → action_of instruction ≡ A.Assign y → y < T
   pub assigns : get_or s (at + 2) 0 ≡ 1 → (instruction ≡ Assign (number_of 1 (drop (at + 3) s)) (expr_of instruction))
       × (number_of 1 (drop (at + 3) s) < T) × (at + 4 ≤ length s)
   pub jumps : get_or s (at + 2) 0 ≡ 4 → (instruction ≡ IfThenGoto (number_of 2 (drop (at + 3) s)) (expr_of instruction))
@@ -77,6 +81,12 @@ module _ (T n : ℕ) (s : List ℕ) (at : ℕ) where
           kind-there = there;
           starts = omega (arith, long);
           parsed = placed 1 q e p;
+          acts =
+              rw (
+                ne_eqb (get_or s (at + 2) 0) 1 (λ z. omega (arith, c.0)),
+                ne_eqb (get_or s (at + 2) 0) 4 (λ z. omega (arith, c.1)),
+              ) (ap {B = Action} (λ k. A.Test k) d);
+          symbols = λ y z. absurd (let x : ◌≡◌ {A = ℕ} 0 1 = cc in omega arith);
           assigns = λ z. absurd (omega (arith, c.0));
           jumps = λ z. absurd (omega (arith, c.1));
           tests = λ y z. ap {B = Instr} (λ k. Test k e) (sym d);
@@ -95,6 +105,8 @@ module _ (T n : ℕ) (s : List ℕ) (at : ℕ) where
           kind-there = there;
           starts = omega (arith, long);
           parsed = placed 2 q e p;
+          acts = rw (eq-eqb (get_or s (at + 2) 0) 1 c) (ap {B = Action} (λ w. A.Assign w) (sym v));
+          symbols = λ y z. subst (λ w. w < T) (let x : number_of 1 (drop 1 body) ≡ y = cc in x) m;
           assigns = λ z. (ap {B = Instr} (λ w. Assign w e) v, subst (λ w. w < T) v m, omega (arith, h, long, inside));
           jumps = λ z. absurd (omega arith);
           tests = λ y z. absurd (y c);
@@ -115,6 +127,10 @@ module _ (T n : ℕ) (s : List ℕ) (at : ℕ) where
           kind-there = there;
           starts = omega (arith, long);
           parsed = placed 3 q e p;
+          acts =
+              rw (ne_eqb (get_or s (at + 2) 0) 1 (λ z. omega arith), eq-eqb (get_or s (at + 2) 0) 4 c)
+              (ap {B = Action} (λ w. A.Goto w) (sym v));
+          symbols = λ y z. absurd (let x : ◌≡◌ {A = ℕ} 0 1 = cc in omega arith);
           assigns = λ z. absurd (omega arith);
           jumps = λ z. (ap {B = Instr} (λ w. IfThenGoto w e) v, subst (λ w. w ≤ n) v m, omega (arith, h, long, inside));
           tests = λ y z. absurd (z c);

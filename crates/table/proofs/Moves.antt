@@ -3,26 +3,23 @@ use Prim.Native.Nat.{ℕ, suc, ◌+◌, ◌*◌, ◌≤◌, ◌<◌}
 use native.Mathlib.Omega.{arith}
 use native.Mathlib.Nat.{mul-le-mul_left, mul-le-mul_right}
 use native.Mathlib.Numerals.{add-one}
-use mathlib.Core.Path.{◌≡◌, refl, sym, ap, ap₂, ◌∙◌, subst}
-use mathlib.Core.Bool.{Bool, true, false, cond}
+use mathlib.Core.Path.{◌≡◌, sym, ap, ap₂, ◌∙◌}
 use mathlib.Core.List.{List}
-use lib.ListN.{length, drop, get_or, set}
-use lib.Dec.{leb, ltb}
+use lib.ListN.{length, drop, set}
 use borrow.Author.Tests.{eq-eqb, ne_eqb}
 use Rattle.expr.specs.declared.File.TheVariants.{Table}
-use Rattle.expr.specs.Number.{number_of}
+use Rattle.expr.specs.declared.token.Token.{Token}
 use Rattle.expr.specs.Expr.{below, Whole, parse}
 use Rattle.expr.specs.Eval.{Env, env_of, value}
 use Rattle.expr.proofs.EvalLaws.{update-set, value-whole}
 use Rattle.expr.specs.Shown.{value_of}
-use Rattle.file.specs.Outcome.{Bound, Failed}
+use Rattle.file.specs.Outcome.{Kind, Failed}
+use Rattle.file.specs.declared.Failure.{Failure}
 use Rattle.file.specs.File.{Body, record_of}
-use Rattle.table.specs.declared.steps.Move.{Move}
-use Rattle.table.specs.declared.steps.Move.TheVariants as M
+use Rattle.table.specs.declared.read.Action.TheVariants as A
 use Rattle.table.specs.Table.{Instr, Assign, Test, IfThenGoto, instr}
 use Rattle.table.specs.Run.{place_in, Next, Halt, Go, jump, step}
-use Rattle.file.specs.Shown.{kind_of}
-use Rattle.table.specs.Shown.{move_of, Moved, expr_part, expr_of, value_in, step_body}
+use Rattle.table.specs.Shown.{expr_part, action_at, action_of, expr_of, value_in, step_body}
 use Rattle.table.proofs.Held.{Held}
 
 -- a place is small
@@ -43,6 +40,22 @@ module _ {T n : ℕ} {s : List ℕ} {at : ℕ} (h : Held T n s at) where
       → value_of ρ (parse Table (below T) e) ≡ value_in (record_of (instr T n) (drop at s)) ρ
   expr-value ρ q = ap (value_of ρ) (expr-whole q) ∙ value-whole ρ (expr_of h.instruction) ∙ sym (ap (λ b. value_in b ρ) h.is)
 
+-- the instruction, by what it does
+assign-is : (x : Instr) (y : ℕ) → action_of x ≡ A.Assign y → x ≡ Assign y (expr_of x)
+assign-is (Assign s e) y q = ap {B = Instr} (λ s. Assign s e) (let z : s ≡ y = cc in z)
+assign-is (Test k e) y q = absurd (let z : ◌≡◌ {A = ℕ} 0 1 = cc in omega arith)
+assign-is (IfThenGoto t e) y q = absurd (let z : ◌≡◌ {A = ℕ} 0 1 = cc in omega arith)
+
+test-is : (x : Instr) (k : Kind) → action_of x ≡ A.Test k → x ≡ Test k (expr_of x)
+test-is (Assign s e) k q = absurd (let z : ◌≡◌ {A = ℕ} 0 1 = cc in omega arith)
+test-is (Test j e) k q = ap {B = Instr} (λ j. Test j e) (let z : j ≡ k = cc in z)
+test-is (IfThenGoto t e) k q = absurd (let z : ◌≡◌ {A = ℕ} 0 1 = cc in omega arith)
+
+goto-is : (x : Instr) (t : ℕ) → action_of x ≡ A.Goto t → x ≡ IfThenGoto t (expr_of x)
+goto-is (Assign s e) t q = absurd (let z : ◌≡◌ {A = ℕ} 0 1 = cc in omega arith)
+goto-is (Test k e) t q = absurd (let z : ◌≡◌ {A = ℕ} 0 1 = cc in omega arith)
+goto-is (IfThenGoto s e) t q = ap {B = Instr} (λ s. IfThenGoto s e) (let z : s ≡ t = cc in z)
+
 module _ {n : ℕ} {s : List ℕ} {at : ℕ} (vals : List ℕ) (h : Held (length vals) n s at) (K i r w : ℕ)
     (v : w ≡ value_in (record_of (instr (length vals) n) (drop at s)) (env_of vals)) where
   abbrev ρ : Env
@@ -51,64 +64,41 @@ module _ {n : ℕ} {s : List ℕ} {at : ℕ} (vals : List ℕ) (h : Held (length
   abbrev rec : Body Instr
   rec = record_of (instr (length vals) n) (drop at s)
 
-  is-value : w ≡ value ρ (expr_of h.instruction)
+  abbrev e : List Token
+  e = expr_of h.instruction
+
+  is-value : w ≡ value ρ e
   is-value = v ∙ ap (λ b. value_in b ρ) h.is
 
   -- the step of the record, by the form of its instruction
-  by : (m : Move) (vals' : List ℕ) (x : Instr) → h.instruction ≡ x → Moved (step n K i r x ρ) m vals'
-      → Moved (step_body n K i r rec ρ) m vals'
-  by m vals' x e k =
-      subst (λ b. Moved (step_body n K i r b ρ) m vals') (sym h.is) (subst (λ y. Moved (step n K i r y ρ) m vals') (sym e) k)
+  by : (x : Instr) → h.instruction ≡ x → (q : Next) → q ≡ step n K i r x ρ → q ≡ step_body n K i r rec ρ
+  by x f q k = k ∙ ap (λ x. step n K i r x ρ) (sym f) ∙ ap (λ b. step_body n K i r b ρ) (sym h.is)
 
-  onward : M.Go (i + 1) r ≡ M.Go (suc i) r
-  onward = ap {B = Move} (λ j. M.Go j r) (add-one i)
+  onward : Go (i + 1) r ρ ≡ Go (suc i) r ρ
+  onward = ap {B = Next} (λ j. Go j r ρ) (add-one i)
 
-  pub assign_moves : (y : ℕ) → get_or s (at + 2) 0 ≡ 1 → y ≡ number_of 1 (drop (at + 3) s)
-      → Moved (step_body n K i r rec ρ) (M.Go (i + 1) r) (set vals y w)
-  assign_moves y k q =
-      let a = h.assigns k in
-      by (M.Go (i + 1) r) (set vals y w) (Assign (number_of 1 (drop (at + 3) s)) (expr_of h.instruction)) a.0 (
-        onward,
-        ap₂ (λ y w. env_of (set vals y w)) q is-value
-            ∙ update-set vals (number_of 1 (drop (at + 3) s)) (value ρ (expr_of h.instruction)) a.1,
-      )
+  pub assign_moves : (y : ℕ) → action_at s at ≡ A.Assign y → Go (i + 1) r (env_of (set vals y w)) ≡ step_body n K i r rec ρ
+  assign_moves y k =
+      by (Assign y e) (assign-is h.instruction y (sym h.acts ∙ k)) (Go (i + 1) r (env_of (set vals y w)))
+      (ap₂ {C = Next} (λ j τ. Go j r τ) (add-one i)
+      (ap (λ w. env_of (set vals y w)) is-value ∙ update-set vals y (value ρ e) (h.symbols y (sym h.acts ∙ k))))
 
   -- a condition that is false, and one that is true
-  pub goto_stays : get_or s (at + 2) 0 ≡ 4 → w ≡ 0 → Moved (step_body n K i r rec ρ) (M.Go (i + 1) r) vals
-  goto_stays k z =
-      by (M.Go (i + 1) r) vals (IfThenGoto (number_of 2 (drop (at + 3) s)) (expr_of h.instruction)) (h.jumps k).0
-      (rw (eq-eqb (value ρ (expr_of h.instruction)) 0 (sym is-value ∙ z)) (onward, refl))
+  pub goto_stays : (t : ℕ) → action_at s at ≡ A.Goto t → w ≡ 0 → Go (i + 1) r ρ ≡ step_body n K i r rec ρ
+  goto_stays t k z =
+      by (IfThenGoto t e) (goto-is h.instruction t (sym h.acts ∙ k)) (Go (i + 1) r ρ) (rw (eq-eqb (value ρ e) 0 (sym is-value ∙ z)) onward)
 
-  moved_of : (x : Next) (m : Move) → m ≡ move_of x → (Go-env : (j q : ℕ) (τ : Env) → x ≡ Go j q τ → env_of vals ≡ τ) → Moved x m vals
-  moved_of (Halt o) m e f = e
-  moved_of (Go j q τ) m e f = (e, f j q τ refl)
+  pub goto_jumps : (t : ℕ) → action_at s at ≡ A.Goto t → (w ≡ 0 → ⊥) → (q : Next) → q ≡ jump n K i r t ρ → q ≡ step_body n K i r rec ρ
+  goto_jumps t k z q f =
+      by (IfThenGoto t e) (goto-is h.instruction t (sym h.acts ∙ k)) q (rw (ne_eqb (value ρ e) 0 (λ y. z (is-value ∙ y))) f)
 
-  jump-keeps : (t : ℕ) (j q : ℕ) (τ : Env) → jump n K i r t ρ ≡ Go j q τ → ρ ≡ τ
-  jump-keeps t j q τ e = go (leb t i) (ltb r K) e
-    where
-      go : (a b : Bool) → cond a (cond b (Go t (suc r) ρ) (Halt (Failed Bound (place_in n r i)))) (Go t r ρ) ≡ Go j q τ → ρ ≡ τ
-      go true true e = cc
-      go true false e = absurd (let z : ◌≡◌ {A = ℕ} 0 1 = cc in omega arith)
-      go false b e = cc
+  pub test-fails : (k : Kind) → action_at s at ≡ A.Test k → w ≡ 0 → (f : Failure) → f ≡ record { kind = k; place = place_in n r i }
+      → Halt (Failed f.kind f.place) ≡ step_body n K i r rec ρ
+  test-fails k a z f q =
+      by (Test k e) (test-is h.instruction k (sym h.acts ∙ a)) (Halt (Failed f.kind f.place))
+      (rw (eq-eqb (value ρ e) 0 (sym is-value ∙ z)) (ap {B = Next} (λ f. Halt (Failed f.kind f.place)) q))
 
-  pub goto_jumps : (m : Move) (t : ℕ) → get_or s (at + 2) 0 ≡ 4 → (w ≡ 0 → ⊥) → t ≡ number_of 2 (drop (at + 3) s)
-      → m ≡ move_of (jump n K i r t ρ)
-      → Moved (step_body n K i r rec ρ) m vals
-  goto_jumps m t k z q e =
-      by m vals (IfThenGoto (number_of 2 (drop (at + 3) s)) (expr_of h.instruction)) (h.jumps k).0
-      (rw (ne_eqb (value ρ (expr_of h.instruction)) 0 (λ y. z (is-value ∙ y)))
-      (moved_of (jump n K i r (number_of 2 (drop (at + 3) s)) ρ) m (e ∙ ap (λ t. move_of (jump n K i r t ρ)) q)
-      (jump-keeps (number_of 2 (drop (at + 3) s)))))
-
-  pub test-fails : (m : Move) (p : ℕ) → (get_or s (at + 2) 0 ≡ 1 → ⊥) → (get_or s (at + 2) 0 ≡ 4 → ⊥) → w ≡ 0 → p ≡ place_in n r i
-      → m ≡ move_of (Halt (Failed (kind_of (get_or s (at + 2) 0)) p)) → Moved (step_body n K i r rec ρ) m vals
-  test-fails m p a b z q e =
-      by m vals (Test (kind_of (get_or s (at + 2) 0)) (expr_of h.instruction)) (h.tests a b)
-      (rw (eq-eqb (value ρ (expr_of h.instruction)) 0 (sym is-value ∙ z))
-      (e ∙ ap (λ p. move_of (Halt (Failed (kind_of (get_or s (at + 2) 0)) p))) q))
-
-  pub test-holds : (get_or s (at + 2) 0 ≡ 1 → ⊥) → (get_or s (at + 2) 0 ≡ 4 → ⊥) → (w ≡ 0 → ⊥)
-      → Moved (step_body n K i r rec ρ) (M.Go (i + 1) r) vals
-  test-holds a b z =
-      by (M.Go (i + 1) r) vals (Test (kind_of (get_or s (at + 2) 0)) (expr_of h.instruction)) (h.tests a b)
-      (rw (ne_eqb (value ρ (expr_of h.instruction)) 0 (λ y. z (is-value ∙ y))) (onward, refl))
+  pub test-holds : (k : Kind) → action_at s at ≡ A.Test k → (w ≡ 0 → ⊥) → Go (i + 1) r ρ ≡ step_body n K i r rec ρ
+  test-holds k a z =
+      by (Test k e) (test-is h.instruction k (sym h.acts ∙ a)) (Go (i + 1) r ρ)
+      (rw (ne_eqb (value ρ e) 0 (λ y. z (is-value ∙ y))) onward)

@@ -10,18 +10,18 @@ use lib.ListN.{length, drop, get_or, length-drop, drop_of_length-le}
 use Rattle.expr.specs.Lists.{All, all_drop}
 use Rattle.expr.specs.Number.{Byte}
 use Rattle.expr.specs.Eval.{env_of}
-use Rattle.file.specs.Outcome.{verdict, place_of}
+use Rattle.file.specs.Outcome.{Ended, Failed}
 use Rattle.file.specs.File.{Head, header_size, header_count, head_of, after_header, Good, Read, record_of, Input, Accepted, Refused}
 use Rattle.file.specs.Shown.{offsets_in, is_accepted, listed}
 use Rattle.file.proofs.FileLaws.{IsFile, file-is}
-use Rattle.table.specs.declared.steps.Move.{Move}
-use Rattle.table.specs.declared.steps.Move.TheVariants as M
+use Rattle.std.specs.Prelude.{Result, Ok, Err}
+use Rattle.file.specs.declared.Failure.{Failure}
+use Rattle.table.specs.declared.steps.Spot.{Spot}
 use Rattle.table.specs.Table.{Instr, instr, instrs, is_table, read_table}
 use Rattle.table.specs.TableLaws.{InstrOk, IsTable, table-ok, instr-at, record-more}
 use Rattle.table.specs.Run.{Next, Halt, Go, step, step_at, Ran, onward, run_from}
 use Rattle.table.specs.RunLaws.{left, Leads, fails, goes, step-leads, fuel-enough}
-use Rattle.table.specs.Answer.{answer_of}
-use Rattle.table.specs.Shown.{Moved, step_body}
+use Rattle.table.specs.Shown.{next_of, step_body}
 
 -- what an accepted table has for the run
 pub record Loaded (s : List ℕ) (head : Head) (is : List Instr) : Type 0 where
@@ -115,52 +115,53 @@ module _ (s off : List ℕ) (n K T : ℕ) (head : Head) (is : List Instr) (l : L
         ∙ ap (λ f. run_from is K f i r (env_of vals)) (let z : left N K i r ≡ suc (left N K i r - 1) = omega (arith, w.inside) in z)
         ∙ ap (λ ys. onward (step_at N K i r ys (env_of vals)) r (run_from is K (left N K i r - 1))) e
 
-    pub end : n ≤ i → record { reply = 0; offset = 0; verdict = 0; place = 0; back_jumps = r } ≡ answer_of whole
-    end h = sym (ap answer_of (one-step [] (drop_of_length-le is {i = i} (omega arith))))
+    pub end : n ≤ i → record { outcome = Ended; back_jumps = r } ≡ whole
+    end h = sym (one-step [] (drop_of_length-le is {i = i} (omega arith)))
 
-    module _ (h : i < n) (m : Move) (vals' : List ℕ)
-        (moved : Moved (step_body n K i r (record_of (instr T n) (drop (get_or off i 0) s)) (env_of vals)) m vals') where
+    module _ (h : i < n) (m : Result Spot Failure) (vals' : List ℕ) (moved : next_of m (env_of vals')
+        ≡ step_body n K i r (record_of (instr T n) (drop (get_or off i 0) s)) (env_of vals)) where
       abbrev x : Instr
       x = (here i h).instruction
 
-      stepped : Moved (step N K i r x (env_of vals)) m vals'
-      stepped = subst (λ b. Moved (step_body N K i r b (env_of vals)) m vals') (here i h).good
-          (subst (λ k. Moved (step_body k K i r (record_of (instr T n) (drop (get_or off i 0) s)) (env_of vals)) m vals') (sym q) moved)
+      stepped : next_of m (env_of vals') ≡ step N K i r x (env_of vals)
+      stepped =
+          moved
+          ∙ ap (λ k. step_body k K i r (record_of (instr T n) (drop (get_or off i 0) s)) (env_of vals)) (sym q)
+          ∙ ap (λ b. step_body N K i r b (env_of vals)) (here i h).good
+
+      next : (y : Next) → step N K i r x (env_of vals) ≡ y → whole ≡ onward y r (run_from is K fuel)
+      next y e = one-step (x ∷ (here i h).after) (here i h).is-here ∙ ap (λ y. onward y r (run_from is K fuel)) e
 
       leads : Leads N K i r (step N K i r x (env_of vals))
       leads =
           step-leads N K i r (omega arith) w.few S x (env_of vals)
           (subst (All (InstrOk S (length is))) (here i h).is-here (all_drop (InstrOk S (length is)) i is all-ok)).0
 
-      pub halts : (v p : ℕ) → m ≡ M.End v p → record { reply = 0; offset = 0; verdict = v; place = p; back_jumps = r } ≡ answer_of whole
-      halts v p e = go (step N K i r x (env_of vals)) refl stepped
-        where
-          go : (y : Next) → step N K i r x (env_of vals) ≡ y → Moved y m vals'
-              → record { reply = 0; offset = 0; verdict = v; place = p; back_jumps = r } ≡ answer_of whole
-          go (Halt o) g k =
-              let a : v ≡ verdict o = (let z = sym e ∙ k in cc) in
-              let b : p ≡ place_of o = (let z = sym e ∙ k in cc) in
-              ap₂ (λ v p. record { reply = 0; offset = 0; verdict = v; place = p; back_jumps = r }) a b
-              ∙ sym (ap answer_of (one-step (x ∷ (here i h).after) (here i h).is-here ∙ ap (λ y. onward y r (run_from is K fuel)) g))
-          go (Go j t ρ) g k = absurd (let z = sym e ∙ k.0 in let y : ◌≡◌ {A = ℕ} 0 1 = cc in omega arith)
+      pub halts : (f : Failure) → m ≡ Err f → record { outcome = Failed f.kind f.place; back_jumps = r } ≡ whole
+      halts f e = sym (next (Halt (Failed f.kind f.place)) (sym stepped ∙ ap (λ m. next_of m (env_of vals')) e))
 
-      pub goes_on : length vals' ≡ length vals → (j t : ℕ) → m ≡ M.Go j t → On is K n v₀ vals' i r j t
-      goes_on kept j t e = go (step N K i r x (env_of vals)) refl leads stepped
+      pub goes_on : length vals' ≡ length vals → (to : Spot) → m ≡ Ok to → On is K n v₀ vals' i r to.i to.r
+      goes_on kept to e = go (step N K i r x (env_of vals)) refl leads
         where
-          go : (y : Next) → step N K i r x (env_of vals) ≡ y → Leads N K i r y → Moved y m vals' → On is K n v₀ vals' i r j t
-          go y g (fails c) k = absurd (let z = sym e ∙ k in let y : ◌≡◌ {A = ℕ} 0 1 = cc in omega arith)
-          go y g (goes j' t' ρ a b c) k =
-              let u : j' ≡ j = (let z = sym e ∙ k.0 in cc) in
-              let v : t' ≡ t = (let z = sym e ∙ k.0 in cc) in
-              subst (λ j. On is K n v₀ vals' i r j t) u (subst (On is K n v₀ vals' i r j') v (record {
+          there : step N K i r x (env_of vals) ≡ Go to.i to.r (env_of vals')
+          there = sym stepped ∙ ap (λ m. next_of m (env_of vals')) e
+
+          go : (y : Next) → step N K i r x (env_of vals) ≡ y → Leads N K i r y → On is K n v₀ vals' i r to.i to.r
+          go y g (fails c) = absurd (let z = sym g ∙ there in let y : ◌≡◌ {A = ℕ} 0 1 = cc in omega arith)
+          go y g (goes j t ρ a b c) =
+              let z = sym g ∙ there in
+              let u : j ≡ to.i = cc in
+              let v : t ≡ to.r = cc in
+              let ends : ρ ≡ env_of vals' = cc in
+              subst (λ j. On is K n v₀ vals' i r j to.r) u (subst (On is K n v₀ vals' i r j) v (record {
                 running = record {
                   inside = b;
                   few = a;
                   long = kept ∙ w.long;
                   same =
-                      ap (run_from is K (left N K j' t') j' t') k.1
-                      ∙ fuel-enough S is K all-ok (left N K j' t') fuel j' t' ρ b a (omega arith) (omega arith)
-                      ∙ sym (one-step (x ∷ (here i h).after) (here i h).is-here ∙ ap (λ y. onward y r (run_from is K fuel)) g);
+                      ap (run_from is K (left N K j t) j t) (sym ends)
+                      ∙ fuel-enough S is K all-ok (left N K j t) fuel j t ρ b a (omega arith) (omega arith)
+                      ∙ sym (next y g);
                 };
                 less = c;
               }))

@@ -13,7 +13,10 @@ use Rattle.file.specs.File.{Head, header_version, header_inputs, header_count, h
 use Rattle.file.specs.Shown.{listed}
 use Rattle.file.proofs.FileLaws.{Header}
 use Rattle.file.proofs.ReadingLaws as Reading
-use Rattle.file.specs.declared.Reading.{Reading}
+use Rattle.std.specs.Prelude.{Result, Ok, Err}
+use Rattle.file.specs.Shown.{reply_of}
+use Rattle.file.specs.declared.Reason.{Reason}
+use Rattle.file.specs.declared.Refusal as Code
 use Rattle.trace.specs.Trace.{Stmt, Seen, see, at_first, stmt, is_trace, tells_bound, read_trace}
 use Rattle.trace.specs.TraceLaws.{stmt-low}
 use Rattle.trace.specs.Judge.{judge}
@@ -26,36 +29,35 @@ abbrev one : (head : Head) (n : ℕ) → Seen → List ℕ → Body Stmt
 one head n = stmt (head.inputs + 4096)
 
 module _ (s : List ℕ) where
-  pub header_read : (r : ℕ) → r ≡ header_reply is_trace 4096 s → (r ≡ 0 → ⊥) → (off : List ℕ)
-      → ReadTrace s off off (record { reply = r; offset = 0; count = 0 })
+  pub header_read : (reason : Reason) → reply_of reason ≡ header_reply is_trace 4096 s → (off : List ℕ)
+      → ReadTrace s off off (Err (record { reason = reason; offset = 0 }))
   unfolding read_trace
   header_read = Reading.header_read is_trace 4096 one see at_first s
 
   -- with the code's own numbers of inputs and records
   pub records-read : header_reply is_trace 4096 s ≡ 0 → {S n : ℕ} {b : Bool} → S ≡ header_inputs s → b ≡ tells_bound (header_version s)
-      → n ≡ header_count s → {off off' : List ℕ} {r : Reading} → ReadRecords s S b n off off' r → ReadTrace s off off' r
+      → n ≡ header_count s → {off off' : List ℕ} {r : Result ℕ Code.Refusal} → ReadRecords s S b n off off' r → ReadTrace s off off' r
   unfolding read_trace
   records-read h {S} {n} {b} i t e {off} {off'} {r} w = Reading.records-read is_trace 4096 one see at_first s h
       (subst (λ n. ReadRecords s (header_inputs s) (tells_bound (header_version s)) n off off' r) e
       (subst (λ b. ReadRecords s (header_inputs s) b n off off' r) t (subst (λ S. ReadRecords s S b n off off' r) i w)))
 
-module _ {s off off' : List ℕ} {r : Reading} (w : ReadTrace s off off' r) where
-  pub offset-small : All Byte s → r.offset < 65536
+pub offset-small : {s off off' : List ℕ} {f : Code.Refusal} → ReadTrace s off off' (Err f) → All Byte s → f.offset < 65536
+unfolding read_trace
+offset-small {s} w = Reading.offset-small is_trace 4096 one see at_first s w
+
+module _ {s off off' : List ℕ} {m : ℕ} (w : ReadTrace s off off' (Ok m)) where
+  pub trace_accepted : read_trace s ≡ Accepted (head_of s) (listed (read_trace s))
   unfolding read_trace
-  offset-small = Reading.offset-small is_trace 4096 one see at_first s w
+  trace_accepted = Reading.is-accepted is_trace 4096 one see at_first s w (λ head n. stmt-low (head.inputs + 4096))
 
-  module _ (h : r.reply ≡ 0) where
-    pub trace_accepted : read_trace s ≡ Accepted (head_of s) (listed (read_trace s))
-    unfolding read_trace
-    trace_accepted = Reading.is-accepted is_trace 4096 one see at_first s w (λ head n. stmt-low (head.inputs + 4096)) h
+  pub right-header : Header is_trace 4096 s
+  unfolding read_trace
+  right-header = Reading.right-header is_trace 4096 one see at_first s w (λ head n. stmt-low (head.inputs + 4096))
 
-    pub right-header : Header is_trace 4096 s
-    unfolding read_trace
-    right-header = Reading.right-header is_trace 4096 one see at_first s w (λ head n. stmt-low (head.inputs + 4096)) h
-
-    pub is-ready : 4096 ≤ length off → Ready s off' r.count
-    unfolding read_trace
-    is-ready = Reading.is-ready is_trace 4096 one see at_first s w (λ head n. stmt-low (head.inputs + 4096)) h
+  pub is-ready : 4096 ≤ length off → Ready s off' m
+  unfolding read_trace
+  is-ready = Reading.is-ready is_trace 4096 one see at_first s w (λ head n. stmt-low (head.inputs + 4096))
 
 -- ---- the answer
 

@@ -8,18 +8,24 @@ use mathlib.Core.List.{List}
 use lib.ListN.{length, drop, get_or, length-drop}
 use lib.Seq.{drop-drop}
 use lib.Dec.{leb, ltb}
-use borrow.Author.Tests.{lt-ltb, le-ltb, le-leb, lt-leb}
+use borrow.Author.Tests.{eq-eqb, ne_eqb, lt-ltb, le-ltb, le-leb, lt-leb}
 use Rattle.expr.specs.declared.File.TheVariants.{Trace}
 use Rattle.expr.specs.Number.{number_of}
 use Rattle.expr.specs.Expr.{parse}
 use Rattle.file.specs.Outcome.{Kind}
 use Rattle.file.specs.File.{AtRecord, field, rule, holding}
-use Rattle.file.specs.declared.Fault.{Fault}
-use Rattle.file.specs.Shown.{fault_at, fault_of, expr_fault}
+use Rattle.file.specs.Shown.{Fault, fault_at, fault_of, expr_fault}
 use Rattle.file.proofs.FileLaws.{field_there, field_missing, fault_holding}
 use Rattle.trace.specs.Trace.{Assign, Test, Seen, assign, assign_at, test_at, stmt}
 use Rattle.trace.specs.TraceLaws.{kind-assign, kind-test, kind-unknown, known-kind}
 use Rattle.trace.specs.Shown.{known_test}
+
+-- a code that is no test's
+pub four_untold : (b : Bool) (k : ℕ) → k ≡ 4 → b ≡ false → known_test b k ≡ false
+four_untold b k e f = rw (eq-eqb k 4 e) f
+
+pub no_test : (b : Bool) (k : ℕ) → (k ≡ 2 → ⊥) → (k ≡ 3 → ⊥) → (k ≡ 4 → ⊥) → known_test b k ≡ false
+no_test b k two three four = rw (ne_eqb k 4 four, ne_eqb k 2 two, ne_eqb k 3 three)
 
 module _ (top : ℕ) (σ : Seen) (body : List ℕ) (h : 0 < length body) where
   abbrev rest : List ℕ

@@ -2,10 +2,11 @@
 use Prim.Native.Nat.{ℕ, ◌+◌, ◌≤◌, ◌<◌}
 use native.Mathlib.Omega.{arith}
 use mathlib.Core.Path.{◌≡◌, refl, sym, ap, ap₂, ◌∙◌, subst}
-use mathlib.Core.Bool.{true}
+use mathlib.Core.Bool.{Bool, true, false, cond}
 use mathlib.Core.List.{List}
 use lib.ListN.{length, take, drop, get_or}
-use borrow.Author.Tests.{eq-eqb, ne_eqb}
+use lib.Dec.{eqb}
+use borrow.Author.Tests.{eq-eqb, ne_eqb, eqb-true, eqb-false}
 use Rattle.expr.specs.declared.File.TheVariants.{Trace}
 use Rattle.expr.specs.Number.{number_of}
 use Rattle.expr.specs.declared.token.Token.{Token}
@@ -16,7 +17,8 @@ use Rattle.file.specs.Shown.{is_good, rest_of}
 use Rattle.file.proofs.RecordLaws.{read-body, body-length, body_some, body-inside, body-part, body-kind, body-number}
 use Rattle.trace.specs.Trace.{Stmt, Assign, Test, Seen, stmt, kind_code}
 use Rattle.trace.specs.TraceLaws.{no_assign, Says, says-assign, says-test, says}
-use Rattle.trace.specs.Shown.{test_kind, expr_start, expr_part, expr_of}
+use Rattle.trace.specs.Shown.{test_kind, expr_start, expr_part, action_at, expr_of}
+use Rattle.trace.specs.declared.read.Action.TheVariants as A
 
 pub record Held (top : ℕ) (σ : Seen) (s : List ℕ) (at : ℕ) : Type 0 where
   pub statement : Stmt
@@ -30,6 +32,38 @@ pub record Held (top : ℕ) (σ : Seen) (s : List ℕ) (at : ℕ) : Type 0 where
       × (number_of 2 (drop (at + 5) s) < top) × (at + 7 ≤ length s)
   pub tests : (get_or s (at + 2) 0 ≡ 1 → ⊥) → (statement ≡ Test (test_kind (get_or s (at + 2) 0)) (number_of 2 (drop (at + 3) s))
       (expr_of statement)) × (at + 5 ≤ length s)
+
+-- the statement, by what the code reads of it
+module _ {top : ℕ} {σ : Seen} {s : List ℕ} {at : ℕ} (h : Held top σ s at) where
+  abbrev code : ℕ
+  code = get_or s (at + 2) 0
+
+  abbrev place : ℕ
+  place = number_of 2 (drop (at + 3) s)
+
+  abbrev symbol : ℕ
+  symbol = number_of 2 (drop (at + 5) s)
+
+  pub acts-assign : (y : ℕ) → action_at s at ≡ A.Assign y → (h.statement ≡ Assign place y (expr_of h.statement)) × (y < top)
+  acts-assign y q = go (eqb code 1) refl q
+    where
+      go : (b : Bool) → eqb code 1 ≡ b → cond b (A.Assign symbol) (A.Test (test_kind code)) ≡ A.Assign y
+          → (h.statement ≡ Assign place y (expr_of h.statement)) × (y < top)
+      go true e q =
+          let a = h.assigns (eqb-true code 1 e) in
+          let z : symbol ≡ y = cc in
+          (a.0 ∙ ap {B = Stmt} (λ y. Assign place y (expr_of h.statement)) z, subst (λ y. y < top) z a.1)
+      go false e q = absurd (let z : ◌≡◌ {A = ℕ} 0 1 = cc in omega arith)
+
+  pub acts-test : (k : Kind) → action_at s at ≡ A.Test k → h.statement ≡ Test k place (expr_of h.statement)
+  acts-test k q = go (eqb code 1) refl q
+    where
+      go : (b : Bool) → eqb code 1 ≡ b → cond b (A.Assign symbol) (A.Test (test_kind code)) ≡ A.Test k
+          → h.statement ≡ Test k place (expr_of h.statement)
+      go true e q = absurd (let z : ◌≡◌ {A = ℕ} 0 1 = cc in omega arith)
+      go false e q =
+          let z : test_kind code ≡ k = cc in
+          (h.tests (eqb-false code 1 e)).0 ∙ ap {B = Stmt} (λ k. Test k place (expr_of h.statement)) z
 
 code-kind : (k : Kind) → test_kind (kind_code k) ≡ k
 code-kind Assume = refl

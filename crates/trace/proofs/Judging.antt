@@ -1,7 +1,7 @@
 -- The loop over statements: judging the statements that are left, with the values that are reached, is judging the whole trace.
 use Prim.Native.Nat.{ℕ, ◌+◌, ◌≤◌, ◌<◌}
 use native.Mathlib.Omega.{arith}
-use mathlib.Core.Path.{◌≡◌, refl, sym, ap, ap₂, ◌∙◌, subst}
+use mathlib.Core.Path.{◌≡◌, refl, sym, ap, ◌∙◌, subst}
 use mathlib.Core.Bool.{Bool, true, false, cond}
 use mathlib.Core.List.{List, [], ◌∷◌}
 use lib.ListN.{length, drop, get_or, length-drop, drop_of_length-le}
@@ -9,17 +9,16 @@ use lib.Seq.{drop-drop}
 use borrow.Author.Tests.{lt-ltb, ltb-true}
 use Rattle.expr.specs.Word.{truthy}
 use Rattle.expr.specs.Eval.{Env, env_of, value}
-use Rattle.file.specs.Outcome.{Outcome, Failed, verdict, place_of}
+use Rattle.std.specs.Prelude.{Result, Ok, Err}
+use Rattle.file.specs.Outcome.{Outcome, Ended, Failed}
+use Rattle.file.specs.declared.Failure.{Failure}
 use Rattle.file.specs.File.{Head, input_room, header_version, header_size, header_count, Good, Input, Accepted, Refused}
 use Rattle.file.specs.Shown.{offsets_in, is_accepted, listed}
 use Rattle.file.proofs.FileLaws.{inputs-room, header_is, file-is, records-chain}
-use Rattle.trace.specs.declared.steps.Move.{Move}
-use Rattle.trace.specs.declared.steps.Move.TheVariants as M
 use Rattle.trace.specs.Trace.{Stmt, Assign, Test, at_first, see, stmt, stmts, is_trace, read_trace}
 use Rattle.trace.specs.TraceLaws.{Wider, symbol-room, stmt-at}
 use Rattle.trace.specs.Judge.{judge}
-use Rattle.trace.specs.Answer.{answer_of}
-use Rattle.trace.specs.Shown.{symbol_room, loose, held, Next, Halt, On, step, step_body, Moved}
+use Rattle.trace.specs.Shown.{symbol_room, loose, held, Next, Halt, On, next_of, step, step_body}
 
 -- ---- an accepted trace
 
@@ -83,10 +82,9 @@ pub start : (ts : List Stmt) (cells : List ℕ) → Judging ts cells cells 0
 start ts cells = record { inside = omega arith; long = refl; same = refl }
 
 pub end : {ts : List Stmt} {cells₀ cells : List ℕ} {k : ℕ} → Judging ts cells₀ cells k → length ts ≤ k
-    → record { reply = 0; offset = 0; verdict = 0; place = 0 } ≡ answer_of (judge ts (env_of cells₀))
+    → Ended ≡ judge ts (env_of cells₀)
 unfolding judge
-end {ts = ts} {cells = cells} {k = k} w h = ap answer_of (sym (ap (λ xs. judge xs (env_of cells)) (drop_of_length-le ts {i = k} h))
-    ∙ w.same)
+end {ts = ts} {cells = cells} {k = k} w h = sym (ap (λ xs. judge xs (env_of cells)) (drop_of_length-le ts {i = k} h)) ∙ w.same
 
 module _ (s off : List ℕ) (n : ℕ) (ts : List Stmt) (l : Loaded s ts) (q : n ≡ header_count s)
     (st : (i : ℕ) → i < n → get_or off i 0 ≡ get_or (offsets_in n s) i 0) where
@@ -108,43 +106,33 @@ module _ (s off : List ℕ) (n : ℕ) (ts : List Stmt) (l : Loaded s ts) (q : n 
         good = ap (λ o. held (drop o s)) (st k h ∙ ap (λ n. get_or (offsets_in n s) k 0) q) ∙ l.stands k x xs e;
       }
 
-  module _ (cells₀ : List ℕ) {cells : List ℕ} {k : ℕ} (w : Judging ts cells₀ cells k) (h : k < n) (m : Move) (cells' : List ℕ)
-      (moved : Moved (step_body (held (drop (get_or off k 0) s)) (env_of cells)) m cells') where
+  module _ (cells₀ : List ℕ) {cells : List ℕ} {k : ℕ} (w : Judging ts cells₀ cells k) (h : k < n) (m : Result (Unit {0}) Failure)
+      (cells' : List ℕ) (moved : next_of m (env_of cells') ≡ step_body (held (drop (get_or off k 0) s)) (env_of cells)) where
     abbrev x : Stmt
     x = (here k h).statement
 
     abbrev xs : List Stmt
     xs = (here k h).after
 
-    stepped : Moved (step x (env_of cells)) m cells'
-    stepped = subst (λ b. Moved (step_body b (env_of cells)) m cells') (here k h).good moved
+    stepped : next_of m (env_of cells') ≡ step x (env_of cells)
+    stepped = moved ∙ ap (λ b. step_body b (env_of cells)) (here k h).good
 
-    whole : judge ts (env_of cells₀) ≡ onward (step x (env_of cells)) xs
-    whole = sym w.same ∙ ap (λ ys. judge ys (env_of cells)) (here k h).is-here ∙ judge-step x xs (env_of cells)
+    whole : judge ts (env_of cells₀) ≡ onward (next_of m (env_of cells')) xs
+    whole =
+        sym w.same
+        ∙ ap (λ ys. judge ys (env_of cells)) (here k h).is-here
+        ∙ judge-step x xs (env_of cells)
+        ∙ ap (λ y. onward y xs) (sym stepped)
 
-    pub halts : (v p : ℕ) → m ≡ M.End v p → record { reply = 0; offset = 0; verdict = v; place = p } ≡ answer_of (judge ts (env_of cells₀))
-    halts v p e = go (step x (env_of cells)) refl stepped
-      where
-        go : (y : Next) → step x (env_of cells) ≡ y → Moved y m cells' → record { reply = 0; offset = 0; verdict = v; place = p }
-            ≡ answer_of
-            (judge ts (env_of cells₀))
-        go (Halt o) g z =
-            let a : v ≡ verdict o = (let y = sym e ∙ z in cc) in
-            let b : p ≡ place_of o = (let y = sym e ∙ z in cc) in
-            ap₂ (λ v p. record { reply = 0; offset = 0; verdict = v; place = p }) a b
-            ∙ sym (ap answer_of (whole ∙ ap (λ y. onward y xs) g))
-        go (On ρ) g z = absurd (let y = sym e ∙ z.0 in let u : ◌≡◌ {A = ℕ} 0 1 = cc in omega arith)
+    pub halts : (f : Failure) → m ≡ Err f → Failed f.kind f.place ≡ judge ts (env_of cells₀)
+    halts f e = sym (whole ∙ ap (λ m. onward (next_of m (env_of cells')) xs) e)
 
-    pub goes_on : length cells' ≡ length cells → m ≡ M.Go → Judging ts cells₀ cells' (k + 1)
+    pub goes_on : length cells' ≡ length cells → m ≡ Ok tt → Judging ts cells₀ cells' (k + 1)
     goes_on kept e = record {
       inside = omega (arith, l.count);
       long = kept ∙ w.long;
-      same = go (step x (env_of cells)) refl stepped;
+      same = ap (λ ys. judge ys (env_of cells')) left ∙ sym (whole ∙ ap (λ m. onward (next_of m (env_of cells')) xs) e);
     }
       where
         left : drop (k + 1) ts ≡ xs
         left = sym (drop-drop 1 k ts) ∙ ap (drop 1) (here k h).is-here
-
-        go : (y : Next) → step x (env_of cells) ≡ y → Moved y m cells' → judge (drop (k + 1) ts) (env_of cells') ≡ judge ts (env_of cells₀)
-        go (Halt o) g z = absurd (let y = sym e ∙ z in let u : ◌≡◌ {A = ℕ} 0 1 = cc in omega arith)
-        go (On ρ) g z = ap₂ judge left z.1 ∙ sym (whole ∙ ap (λ y. onward y xs) g)

@@ -1,9 +1,9 @@
--- The code's moves are the step of the statement that the record holds.
+-- What the code does is the step of the statement that the record holds.
 use Prim.Native.Nat.{ℕ, ◌+◌}
 use native.Mathlib.Omega.{arith}
-use mathlib.Core.Path.{◌≡◌, refl, sym, ap, ap₂, ◌∙◌, subst}
+use mathlib.Core.Path.{◌≡◌, refl, sym, ap, ap₂, ◌∙◌}
 use mathlib.Core.List.{List}
-use lib.ListN.{length, drop, get_or, set}
+use lib.ListN.{length, drop, set}
 use borrow.Author.Tests.{eq-eqb, ne_eqb}
 use Rattle.expr.specs.declared.File.TheVariants.{Trace}
 use Rattle.expr.specs.Number.{number_of}
@@ -11,12 +11,12 @@ use Rattle.expr.specs.Expr.{below, Whole, parse}
 use Rattle.expr.specs.Eval.{Env, env_of, value}
 use Rattle.expr.proofs.EvalLaws.{update-set, value-whole}
 use Rattle.expr.specs.Shown.{value_of}
-use Rattle.file.specs.Outcome.{Failed}
-use Rattle.trace.specs.declared.steps.Move.{Move}
-use Rattle.trace.specs.declared.steps.Move.TheVariants as M
+use Rattle.expr.specs.declared.token.Token.{Token}
+use Rattle.file.specs.Outcome.{Kind, Failed}
+use Rattle.trace.specs.declared.read.Action.TheVariants as A
 use Rattle.trace.specs.Trace.{Stmt, Assign, Test}
-use Rattle.trace.specs.Shown.{test_kind, symbol_room, loose, held, expr_part, expr_of, value_in, step, step_body, Moved, end_of}
-use Rattle.trace.proofs.Held.{Held}
+use Rattle.trace.specs.Shown.{symbol_room, loose, held, expr_part, action_at, expr_of, value_in, Next, Halt, On, step, step_body}
+use Rattle.trace.proofs.Held.{Held, acts-assign, acts-test}
 
 module _ {s : List ℕ} {at : ℕ} (h : Held symbol_room loose s at) where
   -- with the code's own number of symbols
@@ -32,32 +32,31 @@ module _ {s : List ℕ} {at : ℕ} (h : Held symbol_room loose s at) (cells : Li
   abbrev ρ : Env
   ρ = env_of cells
 
-  is-value : w ≡ value ρ (expr_of h.statement)
+  abbrev e : List Token
+  e = expr_of h.statement
+
+  abbrev place : ℕ
+  place = number_of 2 (drop (at + 3) s)
+
+  is-value : w ≡ value ρ e
   is-value = v ∙ ap (λ b. value_in b ρ) h.is
 
   -- the step of the record, by the form of its statement
-  by : (m : Move) (cells' : List ℕ) (x : Stmt) → h.statement ≡ x → Moved (step x ρ) m cells'
-      → Moved (step_body (held (drop at s)) ρ) m cells'
-  by m cells' x e k = subst (λ b. Moved (step_body b ρ) m cells') (sym h.is) (subst (λ y. Moved (step y ρ) m cells') (sym e) k)
+  by : (x : Stmt) → h.statement ≡ x → (q : Next) → q ≡ step x ρ → q ≡ step_body (held (drop at s)) ρ
+  by x f q k = k ∙ ap (λ x. step x ρ) (sym f) ∙ ap (λ b. step_body b ρ) (sym h.is)
 
-  pub assign_moves : length cells ≡ symbol_room → (y : ℕ) → get_or s (at + 2) 0 ≡ 1 → y ≡ number_of 2 (drop (at + 5) s)
-      → Moved (step_body (held (drop at s)) ρ) M.Go (set cells y w)
-  assign_moves long y k q =
-      let a = h.assigns k in
-      by M.Go (set cells y w) (Assign (number_of 2 (drop (at + 3) s)) (number_of 2 (drop (at + 5) s)) (expr_of h.statement)) a.0 (
-        refl,
-        ap₂ (λ y w. env_of (set cells y w)) q is-value
-            ∙ update-set cells (number_of 2 (drop (at + 5) s)) (value ρ (expr_of h.statement)) (omega (arith, a.1)),
-      )
+  pub assign_moves : length cells ≡ symbol_room → (y : ℕ) → action_at s at ≡ A.Assign y
+      → On (env_of (set cells y w)) ≡ step_body (held (drop at s)) ρ
+  assign_moves long y k =
+      let a = acts-assign h y k in
+      by (Assign place y e) a.0 (On (env_of (set cells y w)))
+      (ap {B = Next} On (ap (λ w. env_of (set cells y w)) is-value ∙ update-set cells y (value ρ e) (omega (arith, a.1))))
 
-  pub test-fails : (m : Move) (p : ℕ) → (get_or s (at + 2) 0 ≡ 1 → ⊥) → w ≡ 0 → p ≡ number_of 2 (drop (at + 3) s)
-      → m ≡ end_of (Failed (test_kind (get_or s (at + 2) 0)) p) → Moved (step_body (held (drop at s)) ρ) m cells
-  test-fails m p a z q e =
-      by m cells (Test (test_kind (get_or s (at + 2) 0)) (number_of 2 (drop (at + 3) s)) (expr_of h.statement)) (h.tests a).0
-      (rw (eq-eqb (value ρ (expr_of h.statement)) 0 (sym is-value ∙ z))
-      (e ∙ ap (λ p. end_of (Failed (test_kind (get_or s (at + 2) 0)) p)) q))
+  pub test-fails : (k : Kind) → action_at s at ≡ A.Test k → w ≡ 0 → (p : ℕ) → p ≡ place
+      → Halt (Failed k p) ≡ step_body (held (drop at s)) ρ
+  test-fails k a z p q =
+      by (Test k place e) (acts-test h k a) (Halt (Failed k p))
+      (rw (eq-eqb (value ρ e) 0 (sym is-value ∙ z)) (ap {B = Next} (λ p. Halt (Failed k p)) q))
 
-  pub test-holds : (get_or s (at + 2) 0 ≡ 1 → ⊥) → (w ≡ 0 → ⊥) → Moved (step_body (held (drop at s)) ρ) M.Go cells
-  test-holds a z =
-      by M.Go cells (Test (test_kind (get_or s (at + 2) 0)) (number_of 2 (drop (at + 3) s)) (expr_of h.statement)) (h.tests a).0
-      (rw (ne_eqb (value ρ (expr_of h.statement)) 0 (λ y. z (is-value ∙ y))) (refl, refl))
+  pub test-holds : (k : Kind) → action_at s at ≡ A.Test k → (w ≡ 0 → ⊥) → On ρ ≡ step_body (held (drop at s)) ρ
+  test-holds k a z = by (Test k place e) (acts-test h k a) (On ρ) (rw (ne_eqb (value ρ e) 0 (λ y. z (is-value ∙ y))) refl)

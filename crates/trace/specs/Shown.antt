@@ -1,25 +1,41 @@
 -- What the code's values mean: its answers as functions of the definitions.
-use Rattle.std.specs.Prelude.{ℕ, suc, ◌+◌, ◌≡◌, Bool, true, cond, ◌||◌, List, get_or, set, eqb}
+use Rattle.std.specs.Prelude.{ℕ, zero, suc, ◌+◌, ◌≤◌, Bool, true, false, cond, ◌||◌, List, length, drop, get_or, replicate, eqb}
+use Rattle.std.specs.Prelude.{Result, Ok, Err}
+use Rattle.expr.specs.Number.{number_of}
 use Rattle.expr.specs.declared.token.Token.{Token}
 use Rattle.expr.specs.Expr.{below, readable}
-use Rattle.expr.specs.Eval.{Env, env_of, update, value}
+use Rattle.expr.specs.Eval.{Env, update, value}
 use Rattle.expr.specs.Word.{truthy}
-use Rattle.file.specs.Outcome.{Kind, Assume, Assert, Bound, Outcome, Lost, Failed, verdict, place_of}
+use Rattle.file.specs.Outcome.{Kind, Assume, Assert, Bound, Outcome, Lost, Failed}
 use Rattle.file.specs.File.{Body, Good, Bad, record_of}
 use Rattle.file.specs.Shown as File
-use Rattle.file.specs.Shown.{rest_of, file_count, ReadFile}
-use Rattle.file.specs.declared.Reading.{Reading}
-use Rattle.trace.specs.declared.steps.Move.{Move}
-use Rattle.trace.specs.declared.steps.Move.TheVariants as M
+use Rattle.file.specs.Shown.{reply_of, outcome_of, rest_of, file_count, ReadFile}
+use Rattle.file.specs.declared.Failure.{Failure}
+use Rattle.file.specs.declared.Refusal as Refused
+use Rattle.trace.specs.declared.Answer.{Answer}
+use Rattle.trace.specs.declared.read.Action.{Action}
+use Rattle.trace.specs.declared.read.Action.TheVariants as A
+use Rattle.trace.specs.declared.read.Seen as Code
 use Rattle.trace.specs.Trace.{Stmt, Assign, Test, Seen, at_first, see, stmt, is_trace, read_trace}
+use Rattle.trace.specs.Answer.{refusal, answer_of}
 
 -- ---- reading
+
+-- room for the symbols of any trace, its inputs and 4,096 assigned ones
+unfoldable pub symbol_room : ℕ
+symbol_room = 4160
 
 -- the state that the code keeps: the symbols assigned as an array, and the least that may be assigned
 abbrev pub seen : (S least : ℕ) (assigned : List Bool) (bounds : Bool) → Seen
 seen S l assigned b = record { readable = readable S assigned; least = l; bounds = b }
 
+abbrev pub seen_in : Code.Seen → Seen
+seen_in v = seen v.inputs v.least v.assigned v.bounds
+
 -- before the first statement
+abbrev pub first_seen : (S : ℕ) (bounds : Bool) → Code.Seen
+first_seen S b = record { inputs = S; least = S; assigned = replicate symbol_room false; bounds = b }
+
 abbrev pub unseen : (S : ℕ) (bounds : Bool) → Seen
 unseen S b = record { readable = below S; least = S; bounds = b }
 
@@ -31,21 +47,8 @@ known_test b k = cond (eqb k 4) b (eqb k 2 || eqb k 3)
 abbrev pub test_kind : (code : ℕ) → Kind
 test_kind k = cond (eqb k 3) Assert (cond (eqb k 4) Bound Assume)
 
-abbrev pub least_after : Body Stmt → ℕ → ℕ
-least_after (Good (Assign p x e)) l = suc x
-least_after (Good (Test k p e)) l = l
-least_after (Bad r) l = l
-
-abbrev pub mark : List Bool → Stmt → List Bool
-mark assigned (Assign p x e) = set assigned x true
-mark assigned (Test k p e) = assigned
-
-abbrev pub marked_by : Body Stmt → List Bool → List Bool
-marked_by (Good x) assigned = mark assigned x
-marked_by (Bad r) assigned = assigned
-
 -- the reading of the n records after a trace's header
-abbrev pub ReadRecords : (trace : List ℕ) (S : ℕ) (bounds : Bool) (n : ℕ) (before after : List ℕ) → Reading → Type 0
+abbrev pub ReadRecords : (trace : List ℕ) (S : ℕ) (bounds : Bool) (n : ℕ) (before after : List ℕ) → Result ℕ Refused.Refusal → Type 0
 ReadRecords trace S b n before after r = File.ReadRecords (stmt (S + 4096)) see trace n (unseen S b) before after r
 
 -- of a trace's records, how many are read before the first refusal
@@ -53,18 +56,19 @@ abbrev pub stmt_count : (trace : List ℕ) → ℕ
 stmt_count trace = file_count is_trace 4096 (λ head n. stmt (head.inputs + 4096)) see at_first trace
 
 -- the reading of a trace
-abbrev pub ReadTrace : (trace before after : List ℕ) → Reading → Type 0
+abbrev pub ReadTrace : (trace before after : List ℕ) → Result ℕ Refused.Refusal → Type 0
 ReadTrace trace before after r = ReadFile (read_trace trace) (stmt_count trace) trace before after r
 
 -- a trace that is accepted, with its n records' offsets stored
 abbrev pub Ready : (trace offsets : List ℕ) (n : ℕ) → Type 0
 Ready trace offsets n = File.Ready (read_trace trace) trace offsets n
 
--- ---- judging
+-- n whole records stand one after the other, from an offset on
+abbrev pub Stand : (n : ℕ) (trace : List ℕ) (at : ℕ) → Type 0
+Stand zero s at = Unit {0}
+Stand (suc n) s at = (at + (2 + number_of 2 (drop at s)) ≤ length s) × Stand n s (at + (2 + number_of 2 (drop at s)))
 
--- room for the symbols of any trace, its inputs and 4,096 assigned ones
-unfoldable pub symbol_room : ℕ
-symbol_room = 4160
+-- ---- judging
 
 -- what every accepted statement keeps to
 abbrev pub loose : Seen
@@ -80,6 +84,11 @@ expr_start k = cond (eqb k 1) 7 5
 -- the bytes of the expression in the record at an offset
 abbrev pub expr_part : (trace : List ℕ) (at : ℕ) → List ℕ
 expr_part trace at = rest_of trace at (expr_start (get_or trace (at + 2) 0))
+
+-- what the statement in the record at an offset does
+abbrev pub action_at : (trace : List ℕ) (at : ℕ) → Action
+action_at trace at =
+    cond (eqb (get_or trace (at + 2) 0) 1) (A.Assign (number_of 2 (drop (at + 5) trace))) (A.Test (test_kind (get_or trace (at + 2) 0)))
 
 abbrev pub expr_of : Stmt → List Token
 expr_of (Assign p x e) = e
@@ -102,10 +111,12 @@ abbrev pub step_body : Body Stmt → Env → Next
 step_body (Good x) σ = step x σ
 step_body (Bad r) σ = Halt Lost
 
--- the code's move, and the values that it leaves
-abbrev pub Moved : Next → Move → (cells : List ℕ) → Type 0
-Moved (Halt o) m cells = m ≡ M.End (verdict o) (place_of o)
-Moved (On τ) m cells = (m ≡ M.Go) × (env_of cells ≡ τ)
+-- what the code's step leads to, with the values that it leaves
+abbrev pub next_of : Result (Unit {0}) Failure → Env → Next
+next_of (Ok u) σ = On σ
+next_of (Err f) σ = Halt (Failed f.kind f.place)
 
-abbrev pub end_of : Outcome → Move
-end_of o = M.End (verdict o) (place_of o)
+-- what is answered
+abbrev pub answer_in : Result (Result (Unit {0}) Failure) Refused.Refusal → Answer
+answer_in (Ok end) = answer_of (outcome_of end)
+answer_in (Err f) = refusal (reply_of f.reason) f.offset

@@ -1,140 +1,125 @@
 // The statements of a trace.
 ghost use Rattle.std.specs.Prelude.{◌≡◌, true, ◌+◌, ◌≤◌, ◌<◌, length, drop, get_or};
+ghost use Rattle.expr.specs.declared.File.TheVariants.{Trace};
 ghost use Rattle.expr.specs.Number.{number_of};
-ghost use Rattle.file.specs.File.{input_room, header_size, record_of};
-ghost use Rattle.file.specs.Shown.{fault_of, is_good};
+ghost use Rattle.expr.specs.Expr.{parse};
+ghost use Rattle.file.specs.File.{input_room};
+ghost use Rattle.file.specs.Shown.{fault_in, fault_of, expr_fault};
 ghost use Rattle.trace.specs.Trace.{stmt, is_trace, tells_bound};
-ghost use Rattle.trace.specs.Shown.{symbol_room, expr_start, expr_part, known_test, seen, least_after, marked_by, ReadRecords, ReadTrace};
+ghost use Rattle.trace.specs.Shown.{known_test, test_kind, expr_start, expr_part, action_at};
+ghost use Rattle.trace.specs.Shown.{symbol_room, seen_in, first_seen, ReadTrace};
 
 use super::{OLD_VERSION, SYMBOL_ROOM, VERSION};
 use expr::{File, number};
-use file::{Fault, Reading};
+use file::records::Reader;
+use file::{Kind, Reason, Refusal, records};
 
-// Whether a kind is a test's; the bound's is where `bounds` says so.
-fn known_test(kind: u8, bounds: bool) -> bool
-    ensures { result ≡ known_test bounds kind }
-{
-    if kind == 4 {
-        return bounds;
-    }
-    if kind == 2 {
-        return true;
-    }
-    kind == 3
-}
-
-// What is wrong with a record's bytes after its length.
-fn body_fault(body: &[u8], inputs: usize, least: usize, assigned: &[bool], bounds: bool) -> Fault
-    requires { (0 < length body.now) × (inputs ≤ input_room) }
-    ensures { result ≡ fault_of (length body.now)
-        (stmt (inputs + 4096) (seen inputs least assigned.now bounds) body.now) }
-{
-    let kind = body[0];
-    if kind == 1 {
-        if body.len() < 5 {
-            return file::at_record(5);
-        }
-        let symbol = number::two_at(body, 3);
-        if symbol < least {
-            return file::at_record(6);
-        }
-        if inputs + 4096 <= symbol {
-            return file::at_record(6);
-        }
-        return file::expr_fault(body, 5, File::Trace, inputs, assigned);
-    }
-    if known_test(kind, bounds) {
-        if body.len() < 3 {
-            return file::at_record(5);
-        }
-        return file::expr_fault(body, 3, File::Trace, inputs, assigned);
-    }
-    file::at_record(5)
-}
-
-// After the statement at a place: marks the symbol that it assigns, and gives the least that may be assigned then.
-fn learn(
-    trace: &[u8],
-    at: usize,
+// What the version and the statements before a statement allow: inputs and assigned symbols may be read, a symbol from `least` on may be
+// assigned, and `bounds` says whether the bound's tests have a kind of their own.
+#[derive(Drop)]
+struct Seen {
     inputs: usize,
     least: usize,
-    assigned: &mut [bool],
+    assigned: [bool; SYMBOL_ROOM],
     bounds: bool,
-) -> usize
-    requires { (at < 65536) × (inputs ≤ input_room) × (length assigned.old ≡ symbol_room)
-        × (is_good (record_of (stmt (inputs + 4096) (seen inputs least assigned.old bounds)) (drop at trace.now)) ≡ true) }
-    ensures { (result ≡ least_after (record_of (stmt (inputs + 4096) (seen inputs least assigned.old bounds))
-        (drop at trace.now)) least)
-        × (assigned.new ≡ marked_by (record_of (stmt (inputs + 4096) (seen inputs least assigned.old bounds))
-        (drop at trace.now)) assigned.old) }
-{
-    if trace[at + 2] == 1 {
-        let symbol = number::two_at(trace, at + 5);
-        assigned[symbol] = true;
-        return symbol + 1;
-    }
-    least
 }
 
-// Reads the records after the header, and stores their offsets.
-fn read_records(trace: &[u8], inputs: usize, bounds: bool, n: usize, offsets: &mut [u16]) -> Reading
-    requires { (header_size trace.now ≤ length trace.now) × (length trace.now < 65536) × (inputs ≤ input_room)
-        × (n ≤ length offsets.old) }
-    ensures { ReadRecords trace.now inputs bounds n offsets.old offsets.new result }
-{
-    let mut assigned: [bool; SYMBOL_ROOM] = [false; SYMBOL_ROOM];
-    let mut at = file::header_size(trace);
-    let mut k: usize = 0;
-    let mut least = inputs;
-    while k < n {
-        let len = file::frame_at(trace, at);
-        if len == 0 {
-            return Reading {
-                reply: 5,
-                offset: at,
-                count: k,
-            };
-        }
-        let fault = body_fault(
-            &trace[at + 2..at + (2 + len)],
+impl Seen {
+    // Before the first statement.
+    fn at_first(inputs: usize, bounds: bool) -> Seen
+        ensures { result ≡ first_seen inputs bounds }
+    {
+        Seen {
             inputs,
-            least,
-            &assigned,
+            least: inputs,
+            assigned: [false; SYMBOL_ROOM],
             bounds,
-        );
-        if fault.reply != 0 {
-            return Reading {
-                reply: fault.reply,
-                offset: at + fault.from,
-                count: k,
-            };
         }
-        offsets[k] = at as u16;
-        least = learn(trace, at, inputs, least, &mut assigned, bounds);
-        at += 2 + len;
-        k += 1;
     }
-    if at == trace.len() {
-        return Reading {
-            reply: 0,
-            offset: 0,
-            count: n,
-        };
+
+    // Refuses the expression from a place of a record's body on at the first token that breaks its rules.
+    fn check_expr(&self, body: &[u8], from: usize) -> Result<(), Refusal>
+        requires { from ≤ length body.now }
+        ensures { fault_in result ≡ expr_fault (length body.now) (parse Trace (seen_in self.now).readable (drop from body.now)) }
+    {
+        file::expr_fault(body, from, File::Trace, self.inputs, &self.assigned)
     }
-    Reading {
-        reply: 5,
-        offset: at,
-        count: n,
+
+    // Refuses an assignment by its bytes after its length.
+    fn check_assign(&self, body: &[u8]) -> Result<(), Refusal>
+        requires { (get_or body.now 0 0 ≡ 1) × (0 < length body.now) × (self.now.inputs ≤ input_room) }
+        ensures { fault_in result ≡ fault_of (length body.now) (stmt (self.now.inputs + 4096) (seen_in self.now) body.now) }
+    {
+        if body.len() < 5 {
+            return Err(Reason::Record.into());
+        }
+        let symbol = number::two_at(body, 3);
+        if symbol < self.least {
+            return Err(Reason::Rule.into());
+        }
+        if self.inputs + 4096 <= symbol {
+            return Err(Reason::Rule.into());
+        }
+        self.check_expr(body, 5)
+    }
+
+    // Refuses a test of a known kind by its bytes after its length.
+    fn check_test(&self, body: &[u8]) -> Result<(), Refusal>
+        requires { (known_test self.now.bounds (get_or body.now 0 0) ≡ true) × (0 < length body.now) }
+        ensures { fault_in result ≡ fault_of (length body.now) (stmt (self.now.inputs + 4096) (seen_in self.now) body.now) }
+    {
+        if body.len() < 3 {
+            return Err(Reason::Record.into());
+        }
+        self.check_expr(body, 3)
+    }
+}
+
+impl Reader for Seen {
+    ghost use Rattle.trace.specs.Trace as Spec;
+    ghost use Rattle.trace.specs.Trace.{see};
+    ghost use Rattle.trace.specs.TraceLaws.{stmt-low};
+
+    ghost Thing = { Spec.Stmt };
+
+    ghost State = { Spec.Seen };
+
+    ghost one = { λ v. stmt (v.inputs + 4096) };
+
+    ghost next = { λ v. see };
+
+    ghost state = { λ v. seen_in v };
+
+    ghost ready = { λ v. (v.inputs ≤ input_room) × (length v.assigned ≡ symbol_room) };
+
+    ghost low = { λ v σ bs. stmt-low (v.inputs + 4096) σ bs };
+
+    fn check(&self, body: &[u8]) -> Result<(), Refusal> {
+        match body[0] {
+            1 => self.check_assign(body),
+            2 => self.check_test(body),
+            3 => self.check_test(body),
+            4 if self.bounds => self.check_test(body),
+            _ => Err(Reason::Record.into()),
+        }
+    }
+
+    // The symbol that the statement at a place assigns may be read after it, and the next one is greater.
+    fn learn(&mut self, trace: &[u8], at: usize) {
+        match stmt_at(trace, at).action {
+            Action::Assign(symbol) => {
+                self.assigned[symbol] = true;
+                self.least = symbol + 1;
+            }
+            Action::Test(_) => {}
+        }
     }
 }
 
 fn is_trace(version: u8) -> bool
     ensures { result ≡ is_trace version }
 {
-    if version == VERSION {
-        return true;
-    }
-    version == OLD_VERSION
+    version == VERSION || version == OLD_VERSION
 }
 
 // Whether the bound's tests have a kind of their own.
@@ -144,42 +129,72 @@ fn tells_bound(version: u8) -> bool
     version == VERSION
 }
 
-// Reads any bytes as a trace: the reply that they get, with its offset, or 0 with the offsets of all records stored.
-pub fn read_trace(trace: &[u8], offsets: &mut [u16]) -> Reading
+// Reads any bytes as a trace: the number of its records, with the offsets of all of them stored, or why they are refused, with the offsets
+// of the records before.
+pub fn read_trace(trace: &[u8], offsets: &mut [u16]) -> Result<usize, Refusal>
     requires { 4096 ≤ length offsets.old }
     ensures { ReadTrace trace.now offsets.old offsets.new result }
 {
     let version = file::version_of(trace);
-    let known = is_trace(version);
-    let head = file::header_reply(trace, known, 4096);
-    if head != 0 {
-        return Reading {
-            reply: head,
-            offset: 0,
-            count: 0,
-        };
-    }
-    let inputs = file::inputs_of(trace);
-    let n = file::count_of(trace);
-    read_records(trace, inputs, tells_bound(version), n, offsets)
+    file::header_reply(trace, is_trace(version), 4096)?;
+    let bounds = tells_bound(version);
+    let seen = Seen::at_first(file::inputs_of(trace), bounds);
+    records::read_records(trace, seen, file::count_of(trace), offsets)
 }
 
-// Where the expression begins in a record of a kind.
-fn expr_start(kind: u8) -> usize
-    ensures { result ≡ expr_start kind }
+// What a statement does with the value of its expression: assigns it to a symbol, or tests it.
+#[derive(Clone, Copy)]
+pub enum Action {
+    Assign(usize),
+    Test(Kind),
+}
+
+// A statement, as its record has it.
+#[derive(Clone, Copy)]
+pub struct Stmt<'a> {
+    pub place: u32,
+    pub action: Action,
+    pub expr: &'a [u8],
+}
+
+// A test's kind by its code.
+fn test_kind(code: u8) -> Kind
+    ensures { result ≡ test_kind code }
 {
-    if kind == 1 {
-        return 7;
+    match code {
+        3 => Kind::Assert,
+        4 => Kind::Bound,
+        _ => Kind::Assume,
     }
-    5
 }
 
-// The expression of the record at a place.
+// The statement that the record at a place holds.
+pub fn stmt_at(trace: &[u8], at: usize) -> Stmt
+    requires { (at + (2 + number_of 2 (drop at trace.now)) ≤ length trace.now)
+        × (expr_start (get_or trace.now (at + 2) 0) ≤ 2 + number_of 2 (drop at trace.now)) }
+    ensures { (result.place ≡ number_of 2 (drop (at + 3) trace.now)) × (result.action ≡ action_at trace.now at)
+        × (result.expr.now ≡ expr_part trace.now at) }
+{
+    let place = number::two_at(trace, at + 3) as u32;
+    match trace[at + 2] {
+        1 => Stmt {
+            place,
+            action: Action::Assign(number::two_at(trace, at + 5)),
+            expr: file::rest_of(trace, at, 7),
+        },
+        kind => Stmt {
+            place,
+            action: Action::Test(test_kind(kind)),
+            expr: file::rest_of(trace, at, 5),
+        },
+    }
+}
+
+// Its expression alone.
 pub fn expr_at(trace: &[u8], at: usize) -> &[u8]
     requires { (at + (2 + number_of 2 (drop at trace.now)) ≤ length trace.now)
         × (expr_start (get_or trace.now (at + 2) 0) ≤ 2 + number_of 2 (drop at trace.now)) }
     ensures { result.now ≡ expr_part trace.now at }
 {
-    let kind = trace[at + 2];
-    file::rest_of(trace, at, expr_start(kind))
+    stmt_at(trace, at).expr
 }

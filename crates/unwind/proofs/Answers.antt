@@ -20,7 +20,7 @@ use Rattle.unwind.specs.Unwind.{at_first, opening, unwind}
 use Rattle.unwind.proofs.UnwindLaws.{unwind-count}
 use Rattle.unwind.specs.Size.{trace_size}
 use Rattle.unwind.proofs.SizeLaws.{unwind-size}
-use Rattle.unwind.specs.declared.Answer.{Answer}
+use Rattle.write.specs.declared.Written.{Written}
 use Rattle.unwind.specs.Answer.{Traced, refusal, trace_of, answered, trace_answer, numbers, TraceWritten}
 use Rattle.unwind.specs.Shown.{current_of, newest_of}
 use Rattle.unwind.proofs.Copies.{bytes_at}
@@ -71,11 +71,11 @@ module _ (S : ℕ) (is : List Instr) (K : ℕ) where
 -- ---- the answer
 
 module _ (s out : List ℕ) (K : ℕ) where
-  answers : (q : Traced) → trace_answer s K (length out) ≡ q → {out' : List ℕ} {r : Answer} → r ≡ numbers q → out' ≡ over q.bytes out
+  answers : (q : Traced) → trace_answer s K (length out) ≡ q → {out' : List ℕ} {r : Written} → r ≡ numbers q → out' ≡ over q.bytes out
       → TraceWritten s K out out' r
   answers q e k b = record { answer = k ∙ ap numbers (sym e); buffer = b ∙ ap (λ q. over q.bytes out) (sym e) }
 
-  pub table_refuses : (reply offset : ℕ) → read_table s ≡ Refused reply offset → {r : Answer} → r ≡ numbers (refusal reply offset)
+  pub table_refuses : (reply offset : ℕ) → read_table s ≡ Refused reply offset → {r : Written} → r ≡ numbers (refusal reply offset)
       → TraceWritten s K out out r
   unfolding trace_answer
   table_refuses reply offset e k = answers (refusal reply offset) (ap (answered K (length out)) e) k refl
@@ -88,7 +88,7 @@ module _ (s out : List ℕ) (K : ℕ) where
     unfolding trace_answer
     opened = ap (answered K (length out)) e
 
-    pub bound_refuses : 255 < K → {r : Answer} → r ≡ numbers (refusal 8 0) → TraceWritten s K out out r
+    pub bound_refuses : 255 < K → {r : Written} → r ≡ numbers (refusal 8 0) → TraceWritten s K out out r
     bound_refuses h k = answers (refusal 8 0) (opened ∙ rw (lt-leb K 255 h)) k refl
 
     module _ (few : K ≤ 255) (n : ℕ) (l : length is ≡ n) where
@@ -104,7 +104,7 @@ module _ (s out : List ℕ) (K : ℕ) where
       size_is : (total : ℕ) → total ≡ trace_size is K → length (encode_trace (trace_head S) (unwind Bound S is K)) ≡ total
       size_is total t = unwind-size Bound S is K ∙ sym t
 
-      pub count_refuses : 4096 < 1 + (K + 1) * (n + 1) → {r : Answer} → r ≡ numbers (refusal 9 0) → TraceWritten s K out out r
+      pub count_refuses : 4096 < 1 + (K + 1) * (n + 1) → {r : Written} → r ≡ numbers (refusal 9 0) → TraceWritten s K out out r
       count_refuses h k =
           answers (refusal 9 0) (bounded ∙ rw (lt-leb (length (unwind Bound S is K)) 4096 (omega (arith, count-is S is K n l)))) k refl
 
@@ -112,7 +112,7 @@ module _ (s out : List ℕ) (K : ℕ) where
         counted : leb (length (unwind Bound S is K)) 4096 ≡ true
         counted = le-leb (length (unwind Bound S is K)) 4096 (omega (arith, count-is S is K n l))
 
-        pub size_refuses : 65535 < total → {r : Answer} → r ≡ numbers (refusal 9 0) → TraceWritten s K out out r
+        pub size_refuses : 65535 < total → {r : Written} → r ≡ numbers (refusal 9 0) → TraceWritten s K out out r
         size_refuses h k =
             answers (refusal 9 0) (bounded ∙ rw
             (counted, lt-leb (length (encode_trace (trace_head S) (unwind Bound S is K))) 65535 (omega (arith, size_is total t)))) k refl
@@ -121,7 +121,7 @@ module _ (s out : List ℕ) (K : ℕ) where
           sized : leb (length (encode_trace (trace_head S) (unwind Bound S is K))) 65535 ≡ true
           sized = le-leb (length (encode_trace (trace_head S) (unwind Bound S is K))) 65535 (omega (arith, size_is total t))
 
-          pub room_refuses : length out < total → {r : Answer} → r ≡ numbers (refusal 10 0) → TraceWritten s K out out r
+          pub room_refuses : length out < total → {r : Written} → r ≡ numbers (refusal 10 0) → TraceWritten s K out out r
           room_refuses h k =
               answers (refusal 10 0) (bounded
               ∙ rw (
@@ -141,4 +141,4 @@ module _ (s out : List ℕ) (K : ℕ) where
                 le-leb (length (encode_trace (trace_head S) (unwind Bound S is K))) (length out)
                     (omega (arith, size_is total t)),
               ))
-              (ap {B = Answer} (λ m. record { reply = 0; offset = 0; length = m }) (sym (size_is total t))) b
+              (ap {B = Written} (λ m. record { reply = 0; offset = 0; length = m }) (sym (size_is total t))) b

@@ -4,7 +4,6 @@ pub mod Accepted
 pub mod Sizes
 pub mod Writing
 pub mod Copies
-pub mod Names
 pub mod Answers
 pub mod UnwindLaws
 pub mod AgreeLaws

@@ -5,7 +5,7 @@ use Rattle.file.specs.File.{Input, Accepted, Refused}
 use Rattle.table.specs.Table.{Instr, read_table}
 use Rattle.trace.specs.Trace.{Stmt, trace_head, encode_trace}
 use Rattle.write.specs.Splice.{over}
-use Rattle.unwind.specs.declared.Answer.{Answer}
+use Rattle.write.specs.declared.Written.{Written}
 use Rattle.unwind.specs.Unwind.{unwind}
 
 -- the bytes are written from the buffer's first byte on, and the length answered is theirs
@@ -36,9 +36,9 @@ trace_answer table K room = answered K room (read_table table)
 
 -- ---- what the call answers and leaves in the buffer
 
-abbrev pub numbers : Traced → Answer
+abbrev pub numbers : Traced → Written
 numbers q = record { reply = q.reply; offset = q.offset; length = length q.bytes }
 
-pub record TraceWritten (table : List ℕ) (K : ℕ) (out out' : List ℕ) (r : Answer) : Type 0 where
+pub record TraceWritten (table : List ℕ) (K : ℕ) (out out' : List ℕ) (r : Written) : Type 0 where
   pub answer : r ≡ numbers (trace_answer table K (length out))
   pub buffer : out' ≡ over (trace_answer table K (length out)).bytes out

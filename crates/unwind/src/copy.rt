@@ -128,27 +128,35 @@ fn write_place(
 fn write_copy(
     table: &[u8],
     offsets: &[u16],
-    n: usize,
     bound: usize,
     r: usize,
     names: &mut [u16],
     f: Front,
     out: &mut [u8],
 ) -> Front
-    requires { (r ≤ bound) × (bound ≤ 255) × (f.next + (n + 1) ≤ 65535) × Ready table.now offsets.now n
+    requires { (r ≤ bound) × (bound ≤ 255) × (f.next + (length offsets.now + 1) ≤ 65535)
+        × Ready table.now offsets.now (length offsets.now)
         × (header_inputs table.now ≤ length names.old)
         × (f.to + length (records_bytes stmt_bytes
-        (statements Bound (newest_of names.old f.control f.next) (copy_from n bound r 0 (listed (read_table table.now)))))
+        (statements Bound (newest_of names.old f.control f.next) (copy_from (length offsets.now) bound r 0 (listed (read_table table.now)))))
         ≤ length out.old) }
     ensures { Written (newest_of names.old f.control f.next)
-        (copy_from n bound r 0 (listed (read_table table.now))) out.old f.to out.new names.new result }
+        (copy_from (length offsets.now) bound r 0 (listed (read_table table.now))) out.old f.to out.new names.new result }
 {
-    let mut i: usize = 0;
+    let n = offsets.len();
     let mut g = f;
-    while i < n {
-        let at = offsets[i] as usize;
-        g = write_place(table, at, n, bound, r, i, &mut *names, g, &mut *out);
-        i += 1;
+    for (i, &at) in offsets.iter().enumerate() {
+        g = write_place(
+            table,
+            at as usize,
+            n,
+            bound,
+            r,
+            i,
+            &mut *names,
+            g,
+            &mut *out,
+        );
     }
     let w = g.control;
     let new = g.next;
@@ -164,13 +172,13 @@ fn write_copy(
 pub fn write_copies(
     table: &[u8],
     offsets: &[u16],
-    n: usize,
     bound: usize,
     names: &mut [u16],
     f: Front,
     out: &mut [u8],
 ) -> usize
-    requires { (bound ≤ 255) × (f.next + (bound + 1) * (n + 1) ≤ 65535) × Ready table.now offsets.now n
+    requires { (bound ≤ 255) × (f.next + (bound + 1) * (length offsets.now + 1) ≤ 65535)
+        × Ready table.now offsets.now (length offsets.now)
         × (header_inputs table.now ≤ length names.old)
         × (f.to + length (records_bytes stmt_bytes
         (statements Bound (newest_of names.old f.control f.next) (places (listed (read_table table.now)) bound)))
@@ -179,11 +187,9 @@ pub fn write_copies(
         (records_bytes stmt_bytes (statements Bound (newest_of names.old f.control f.next)
         (places (listed (read_table table.now)) bound))) out.new result }
 {
-    let mut r: usize = 0;
     let mut g = f;
-    while r <= bound {
-        g = write_copy(table, offsets, n, bound, r, &mut *names, g, &mut *out);
-        r += 1;
+    for r in 0..=bound {
+        g = write_copy(table, offsets, bound, r, &mut *names, g, &mut *out);
     }
     g.to
 }

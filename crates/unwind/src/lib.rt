@@ -6,7 +6,8 @@ mod record;
 mod size;
 mod tokens;
 
-ghost use Rattle.std.specs.Prelude.{◌≡◌, ℕ, ◌+◌, ◌*◌, ◌≤◌, length};
+ghost use Rattle.std.specs.Prelude.{◌≡◌, ℕ, ◌+◌, ◌*◌, ◌^◌, ◌≤◌, ◌<◌, length};
+ghost use Rattle.std.specs.Result.{IfErr};
 ghost use Rattle.file.specs.Outcome.{Bound};
 ghost use Rattle.file.specs.File.{input_room, header_inputs};
 ghost use Rattle.file.specs.Shown.{listed};
@@ -14,57 +15,36 @@ ghost use Rattle.table.specs.Table.{read_table};
 ghost use Rattle.table.specs.Shown.{Ready};
 ghost use Rattle.trace.specs.Trace.{trace_head, encode_trace};
 ghost use Rattle.write.specs.Splice.{over};
+ghost use Rattle.write.specs.Shown.{written};
 ghost use Rattle.unwind.specs.Unwind.{unwind};
 ghost use Rattle.unwind.specs.Size.{trace_size};
-ghost use Rattle.unwind.specs.Answer.{refusal, numbers, TraceWritten};
+ghost use Rattle.unwind.specs.Answer.{TraceWritten};
 ghost use Rattle.unwind.specs.Shown.{current_of};
 
 use copy::Front;
-use file::INPUT_ROOM;
+use file::{INPUT_ROOM, Reason, Refusal};
+use std::array;
 use table::read;
-
-// Document 01's answer to writing a trace: a reply and its offset, and the length written.
-#[derive(Clone, Copy)]
-pub struct Answer {
-    pub reply: u32,
-    pub offset: u32,
-    pub length: u32,
-}
-
-fn refused(reply: u32, offset: u32) -> Answer
-    ensures { result ≡ numbers (refusal reply offset) }
-{
-    Answer {
-        reply: reply,
-        offset: offset,
-        length: 0,
-    }
-}
+pub use write::Written as Answer;
 
 // At first the current symbol of every program symbol is the input itself.
 fn first_names() -> [u16; INPUT_ROOM]
     ensures { (length result ≡ input_room) × ((s : ℕ) → current_of result s ≡ s) }
 {
-    let mut names: [u16; INPUT_ROOM] = [0; INPUT_ROOM];
-    let mut s: usize = 0;
-    while s < INPUT_ROOM {
-        names[s] = s as u16;
-        s += 1;
-    }
-    names
+    array::from_fn(|s| s as u16)
 }
 
 // The header, the opening and all copies, of a trace whose statements and bytes are counted and fit.
 fn write_all(
     table: &[u8],
     offsets: &[u16],
-    n: usize,
     bound: usize,
     count: usize,
     total: usize,
     out: &mut [u8],
 )
-    requires { Ready table.now offsets.now n × (bound ≤ 255) × (count ≡ 1 + (bound + 1) * (n + 1)) × (count ≤ 4096)
+    requires { Ready table.now offsets.now (length offsets.now) × (bound ≤ 255)
+        × (count ≡ 1 + (bound + 1) * (length offsets.now + 1)) × (count ≤ 4096)
         × (total ≡ trace_size (listed (read_table table.now)) bound) × (total ≤ length out.old) }
     ensures { out.new ≡ over (encode_trace (trace_head (header_inputs table.now))
         (unwind Bound (header_inputs table.now) (listed (read_table table.now)) bound)) out.old }
@@ -78,39 +58,39 @@ fn write_all(
         next: inputs + 1,
         to: b,
     };
-    let _ = copy::write_copies(table, offsets, n, bound, &mut names, f, out);
+    let _ = copy::write_copies(table, offsets, bound, &mut names, f, out);
 }
 
 // Writes the trace of a table under a bound.
 pub fn write_trace(table: &[u8], bound: u64, out: &mut [u8]) -> Answer
     ensures { TraceWritten table.now bound out.old out.new result }
 {
+    Answer::of(try_write(table, bound, out))
+}
+
+// The length of a trace that is written, or why there is none.
+fn try_write(table: &[u8], bound: u64, out: &mut [u8]) -> Result<u32, Refusal>
+    ensures answer { TraceWritten table.now bound out.old out.new (written result) }
+    ensures small { IfErr result (λ why. why.offset < 2 ^ 32) }
+{
     let mut offsets: [u16; 1024] = [0; 1024];
-    let t = read::read_table(table, &mut offsets);
-    let reply = t.reply;
-    if reply != 0 {
-        return refused(reply as u32, t.offset as u32);
-    }
+    let n = read::read_table(table, &mut offsets)?;
     if 255 < bound {
-        return refused(8, 0);
+        return Err(Reason::HighBound.into());
     }
     let k = bound as usize;
-    let n = t.count;
-    let count = 1 + (k + 1) * (n + 1);
+    let stored = &offsets[..n];
+    let count = 1 + (k + 1) * (stored.len() + 1);
     if 4096 < count {
-        return refused(9, 0);
+        return Err(Reason::LongTrace.into());
     }
-    let total = size::trace_size(table, &offsets, n, k);
+    let total = size::trace_size(table, stored, k);
     if 65535 < total {
-        return refused(9, 0);
+        return Err(Reason::LongTrace.into());
     }
     if out.len() < total {
-        return refused(10, 0);
+        return Err(Reason::ShortBuffer.into());
     }
-    write_all(table, &offsets, n, k, count, total, out);
-    Answer {
-        reply: 0,
-        offset: 0,
-        length: total as u32,
-    }
+    write_all(table, stored, k, count, total, out);
+    Ok(total as u32)
 }

@@ -45,20 +45,17 @@ fn instr_sizes(table: &[u8], at: usize, n: usize, i: usize) -> Sizes
     }
 }
 
-fn copy_sizes(table: &[u8], offsets: &[u16], n: usize) -> Sizes
-    requires { Ready table.now offsets.now n }
+fn copy_sizes(table: &[u8], offsets: &[u16]) -> Sizes
+    requires { Ready table.now offsets.now (length offsets.now) }
     ensures { (result.early ≡ copy_size false 0 (listed (read_table table.now)))
         × (result.last ≡ copy_size true 0 (listed (read_table table.now))) × (result.early ≤ 134348825) × (result.last ≤ 134348825) }
 {
-    let mut i: usize = 0;
     let mut early: usize = 25;
     let mut last: usize = 25;
-    while i < n {
-        let at = offsets[i] as usize;
-        let s = instr_sizes(table, at, n, i);
+    for (i, &at) in offsets.iter().enumerate() {
+        let s = instr_sizes(table, at as usize, offsets.len(), i);
         early += s.early;
         last += s.last;
-        i += 1;
     }
     Sizes {
         early: early,
@@ -67,10 +64,10 @@ fn copy_sizes(table: &[u8], offsets: &[u16], n: usize) -> Sizes
 }
 
 // The bytes of the whole trace.
-pub fn trace_size(table: &[u8], offsets: &[u16], n: usize, bound: usize) -> usize
-    requires { (bound ≤ 255) × Ready table.now offsets.now n }
+pub fn trace_size(table: &[u8], offsets: &[u16], bound: usize) -> usize
+    requires { (bound ≤ 255) × Ready table.now offsets.now (length offsets.now) }
     ensures { result ≡ trace_size (listed (read_table table.now)) bound }
 {
-    let s = copy_sizes(table, offsets, n);
+    let s = copy_sizes(table, offsets);
     file::head_size(trace::VERSION) + (12 + (bound * s.early + s.last))
 }

@@ -1,33 +1,20 @@
--- The loop that copies a part: what is left of it goes behind what is written of it.
-use Prim.Native.Nat.{ℕ, ◌+◌, ◌≤◌, ◌<◌}
-use native.Mathlib.Omega.{arith}
-use native.Mathlib.Nat.{add-zero}
-use native.Mathlib.Numerals.{add-one}
-use mathlib.Core.Path.{refl, sym, ap, ◌∙◌}
-use mathlib.Core.List.{List, [], ◌∷◌}
-use lib.ListN.{length, drop, get_or, set, drop_of_length-le}
-use lib.Seq.{drop-cons}
+-- A part that is copied byte after byte: the bytes so far are written, and a byte behind the buffer's end is no store.
+use Rattle.std.proofs.Common.{ℕ, ◌+◌, ◌<◌, ◌≡◌, refl, List, [], ◌∷◌, length, take, get_or}
+use Rattle.std.proofs.Common.{arith, sym}
+use Rattle.std.proofs.lemmas.List.{take_more}
+use Rattle.std.proofs.Math.ListN.{set}
 use Rattle.write.specs.Splice.{splice, Wrote}
-use Rattle.write.specs.SpliceLaws.{Ahead, ahead_start, ahead_step, ahead_end}
+use Rattle.write.specs.SpliceLaws.{◌then◌, wrote_as}
 
-pub record Copying (part out₀ : List ℕ) (at : ℕ) (out : List ℕ) (i : ℕ) : Type 0 where
-  pub inside : i ≤ length part
-  pub wrote : Ahead out (at + i) (drop i part) out₀ at part
+pub copied_none : (out : List ℕ) (at : ℕ) → Wrote out at [] out (at + 0)
+unfolding splice
+copied_none out at = record { buffer = refl; next = refl }
 
-pub copying_start : (part out : List ℕ) (at : ℕ) → Copying part out at out 0
-copying_start part out at = record { inside = omega arith; wrote = rw add-zero (ahead_start out at part) }
+stored : (out : List ℕ) (at b : ℕ) {next : ℕ} → next ≡ at + 1 → Wrote out at (b ∷ []) (set out at b) next
+unfolding splice
+stored out at b e = record { buffer = refl; next = e }
 
-module _ {part out₀ : List ℕ} {at : ℕ} {out : List ℕ} {i : ℕ} (v : Copying part out₀ at out i) where
-  module _ (h : i < length part) where
-    stored : Wrote out (at + i) (get_or part i 0 ∷ []) (set out (at + i) (get_or part i 0)) (at + (i + 1))
-    unfolding splice
-    stored = record { buffer = refl; next = omega arith }
-
-    pub copying_on : Copying part out₀ at (set out (at + i) (get_or part i 0)) (i + 1)
-    copying_on = record {
-      inside = omega arith;
-      wrote = ahead_step v.wrote (drop-cons part i 0 h ∙ ap (λ k. get_or part i 0 ∷ drop k part) (sym (add-one i))) stored;
-    }
-
-  pub copying_end : length part ≤ i → Wrote out₀ at part out (at + i)
-  copying_end h = ahead_end v.wrote (drop_of_length-le part {i = i} h)
+pub copied_more : (part : List ℕ) (i : ℕ) {out : List ℕ} {at : ℕ} {now : List ℕ} → i < length part
+    → Wrote out at (take i part) now (at + i)
+    → Wrote out at (take (i + 1) part) (set now (at + i) (get_or part i 0)) (at + (i + 1))
+copied_more part i h w = wrote_as (sym (take_more part i 0 h)) (w then stored _ _ _ (omega arith))

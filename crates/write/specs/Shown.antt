@@ -1,5 +1,13 @@
 -- What the code's values mean: its answers as functions of the definitions.
-use Rattle.std.specs.Prelude.{ℕ, zero, suc, ◌/◌, cond, ltb}
+use Rattle.std.specs.Prelude.{ℕ, zero, suc, ◌/◌, cond, ltb, Result, Ok, Err}
+use Rattle.file.specs.Shown.{reply_of}
+use Rattle.file.specs.declared.Refusal.{Refusal}
+use Rattle.write.specs.declared.Written.{Written}
+
+-- what is answered: the length that is written, or a refusal, for which nothing is
+abbrev pub written : Result ℕ Refusal → Written
+written (Ok n) = record { reply = 0; offset = 0; length = n }
+written (Err why) = record { reply = reply_of why.reason; offset = why.offset; length = 0 }
 
 -- the digits of a number, at most k
 abbrev pub digit_count_up_to : (k n : ℕ) → ℕ

@@ -2,6 +2,7 @@
 #![tactic(auto)]
 
 ghost use Rattle.std.specs.Prelude.{[], ◌∷◌, ◌≡◌, ◌+◌, ◌^◌, ◌≤◌, ◌<◌, length, set};
+ghost use Rattle.std.specs.Result.{IfErr};
 ghost use Rattle.expr.specs.declared.File.TheVariants.{Trace};
 ghost use Rattle.expr.specs.Number.{bytes_of};
 ghost use Rattle.expr.specs.declared.token.Token.TheVariants.{Const, Symbol};
@@ -9,9 +10,39 @@ ghost use Rattle.expr.specs.Token.{token_bytes};
 ghost use Rattle.file.specs.File.{head_size, inputs_limit, header_version, header_size, header_inputs, head_of, header};
 ghost use Rattle.write.specs.Splice.{Wrote};
 ghost use Rattle.write.specs.Decimal.{decimal};
-ghost use Rattle.write.specs.Shown.{digit_count};
+ghost use Rattle.write.specs.Shown.{written, digit_count};
 
 use expr::token;
+use file::Refusal;
+
+// The answer of a call that writes: a reply and its offset, and the length written.
+#[derive(Clone, Copy)]
+pub struct Written {
+    pub reply: u32,
+    pub offset: u32,
+    pub length: u32,
+}
+
+impl Written {
+    // From how writing went: so many bytes are written, or none, for a reason.
+    pub fn of(how: Result<u32, Refusal>) -> Written
+        requires { IfErr how (λ why. why.offset < 2 ^ 32) }
+        ensures { result ≡ written how }
+    {
+        match how {
+            Ok(length) => Written {
+                reply: 0,
+                offset: 0,
+                length,
+            },
+            Err(why) => Written {
+                reply: why.reason.into(),
+                offset: why.offset as u32,
+                length: 0,
+            },
+        }
+    }
+}
 
 pub fn put_byte(b: u8, out: &mut [u8], at: usize) -> usize
     requires { at + 1 ≤ length out.old }
@@ -26,20 +57,14 @@ pub fn put_two(v: usize, out: &mut [u8], at: usize) -> usize
     requires { at + 2 ≤ length out.old }
     ensures { Wrote out.old at (bytes_of 2 v) out.new result }
 {
-    out[at] = (v / 256 % 256) as u8;
-    out[at + 1] = (v % 256) as u8;
-    at + 2
+    put_part(&((v % 65536) as u16).to_be_bytes(), out, at)
 }
 
 pub fn put_word(v: u32, out: &mut [u8], at: usize) -> usize
     requires { at + 4 ≤ length out.old }
     ensures { Wrote out.old at (bytes_of 4 v) out.new result }
 {
-    out[at] = (v / 16777216 % 256) as u8;
-    out[at + 1] = (v / 65536 % 256) as u8;
-    out[at + 2] = (v / 256 % 256) as u8;
-    out[at + 3] = (v % 256) as u8;
-    at + 4
+    put_part(&v.to_be_bytes(), out, at)
 }
 
 pub fn put_constant(v: u32, out: &mut [u8], at: usize) -> usize
@@ -80,23 +105,21 @@ pub fn put_header_of(s: &[u8], total: usize, n: usize, out: &mut [u8]) -> usize
     put_header(file::version_of(s), total, file::inputs_of(s), n, out)
 }
 
-// The bytes of a part of another file.
+// The bytes of a part of another file. `copy_from_slice` looks whether the two overlap, which made scripts a seventh slower.
 pub fn put_part(part: &[u8], out: &mut [u8], at: usize) -> usize
     requires { at + length part.now ≤ length out.old }
     ensures { Wrote out.old at part.now out.new result }
 {
-    let mut i: usize = 0;
-    while i < part.len() {
-        out[at + i] = part[i];
-        i += 1;
+    for (i, b) in part.iter().enumerate() {
+        out[at + i] = *b;
     }
-    at + i
+    at + part.len()
 }
 
 // ---- writers that ask for no room: what does not fit is not stored, and the next place is counted all the same. So a text is measured by
 // writing it into one byte.
 
-// A byte, where there is a place for it.
+// A byte, where there is a place for it. After a write through `get_mut` a proof would know no byte of the buffer.
 pub fn store(b: u8, out: &mut [u8], at: usize)
     ensures { out.new ≡ set out.old at b }
 {
@@ -118,13 +141,10 @@ fn fit_each(part: &[u8], out: &mut [u8], at: usize) -> usize
     requires { at + length part.now < 2 ^ 64 }
     ensures { Wrote out.old at part.now out.new result }
 {
-    let mut i: usize = 0;
-    while i < part.len() {
-        let b = part[i];
-        store(b, &mut *out, at + i);
-        i += 1;
+    for (i, b) in part.iter().enumerate() {
+        store(*b, out, at + i);
     }
-    at + i
+    at + part.len()
 }
 
 // All of it at once, or none of it, where that is known from the start.
@@ -142,7 +162,7 @@ pub fn fit_part(part: &[u8], out: &mut [u8], at: usize) -> usize
     fit_each(part, out, at)
 }
 
-// How many digits a number has.
+// How many digits a number has: a division for each, and no range that a `for` could go over.
 fn digits(v: u32) -> usize
     ensures { (result ≡ digit_count v) × (1 ≤ result) × (result ≤ 10) }
 {
@@ -161,12 +181,9 @@ fn fit_digits(v: u32, out: &mut [u8], at: usize) -> usize
     ensures { Wrote out.old at (decimal v) out.new result × (result ≤ at + 10) }
 {
     let k = digits(v);
-    let mut i = k;
     let mut rest = v;
-    while 0 < i {
-        i -= 1;
-        let digit = 48 + (rest % 10) as u8;
-        store(digit, &mut *out, at + i);
+    for i in (0..k).rev() {
+        store(48 + (rest % 10) as u8, out, at + i);
         rest /= 10;
     }
     at + k

@@ -1,15 +1,15 @@
+use Prim.Native.Nat.{◌+◌}
 use native.Mathlib.Omega.{arith}
-use mathlib.Core.Path.{ap, ◌∙◌}
-use lib.ListN.{get_or, set}
-use Rattle.file.proofs.FileLaws.{copy_next}
+use mathlib.Core.Path.{◌≡◌, sym, ap, ◌∙◌}
+use mathlib.Core.List.{◌++◌}
+use lib.ListN.{length, drop}
+use Rattle.std.proofs.lemmas.List.Edits.{sets-eq}
 use Rattle.file.proofs.copy_words.Goals as goal
-use Rattle.file.proofs.copy_words.Goals.{At-loop-s}
 
-pub loop-s-preserved : goal.loop-s-preserved
-loop-s-preserved c =
-    let v = c.loop-s in
-    let a = c.args in (
-      omega arith,
-      ap (λ x. set x v.s (get_or a.words.now v.s 0)) v.invariant.1
-          ∙ copy_next a.cells.now a.words.now v.s c.loop-s-test.true,
-    )
+pub returns : goal.returns
+returns c =
+    let words = c.args.words.now in
+    let cells = c.args.cells.now in
+    ap (λ r. r ++ drop (length words) cells) c.copy_from_slice.ensures.after
+    ∙ ap (λ n. words ++ drop n cells) (let e : length words ≡ 0 + length words = omega arith in e)
+    ∙ sym (sets-eq words cells 0 (omega (arith, c.requires)))

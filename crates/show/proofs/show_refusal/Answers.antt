@@ -1,8 +1,7 @@
--- The text is measured, and then written where it fits.
-use Rattle.show.proofs.Whole.{written}
+-- The closure writes the refusal's text.
+use Rattle.std.proofs.Common.{rules}
+use Rattle.show.specs.Text.{refusal_text}
 use Rattle.show.proofs.show_refusal.Goals as goal
 
 pub returns : goal.returns
-returns c =
-    written c.put_refusal-size.ensures.0 _ c.if-out-size.false
-    c.put_refusal-length.ensures.0
+returns c = c.show_text.ensures (refusal_text c.args.reply c.args.offset) (λ b n b' p. search rules)

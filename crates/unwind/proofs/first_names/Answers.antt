@@ -1,22 +1,17 @@
-use Prim.Native.Nat.{ℕ}
+-- Below the array's length the closure's own answer; past it, the symbol itself.
+use Prim.Native.Nat.{ℕ, ◌<◌}
 use native.Mathlib.Omega.{arith}
-use lib.ListN.{length-replicate}
-use Rattle.unwind.proofs.Names.{naming_on, naming_end}
+use native.Mathlib.Decide.{dec_lt}
+use mathlib.Core.Path.{◌≡◌}
+use lib.ListN.{get_or}
+use Rattle.std.proofs.Common.{rules}
+use Rattle.std.proofs.lemmas.List.{get_or_past}
 use Rattle.file.specs.File.{input_room}
 use Rattle.unwind.proofs.first_names.Goals as goal
 
-pub loop-s-init : goal.loop-s-init
-unfolding input_room
-loop-s-init c = record { long = length-replicate {A = ℕ} input_room 0; inside = omega arith; named = λ x h. absurd (omega arith) }
-
-pub loop-s-smaller : goal.loop-s-smaller
-unfolding input_room
-loop-s-smaller c = omega arith
-
-pub loop-s-preserved : goal.loop-s-preserved
-unfolding input_room
-loop-s-preserved c = naming_on _ _ c.loop-s.invariant c.loop-s-test.true
-
 pub returns : goal.returns
 unfolding input_room
-returns c = (c.loop-s.invariant.long, naming_end _ _ c.loop-s.invariant c.loop-s-test.false)
+returns c =
+    let all = c.from_fn.ensures.items in
+    let named : (s : ℕ) → s < 64 → get_or c.from_fn.result s s ≡ s = λ s h. let made = all.at s s h in search rules in
+    (all.long, λ s. elim (dec_lt s 64) [ yes h ↦ named s h | no h ↦ get_or_past _ s s (omega (arith, all.long)) ])

@@ -4,6 +4,3 @@ use Rattle.write.proofs.fit_digits.Given as goal
 
 abbrev pub invariant-loop-i : goal.invariant-loop-i
 invariant-loop-i l = Storing l.v l.initial.out l.at l.k l.out l.i l.rest
-
-abbrev pub decreases-loop-i : goal.decreases-loop-i
-decreases-loop-i l = l.i

@@ -1,11 +1,7 @@
--- The invariant is that of `put_part`; where there is no room, a store changes nothing.
-use Prim.Native.Nat.{◌-◌}
-use lib.ListN.{length}
-use Rattle.write.proofs.Parts.{Copying}
+-- As far as the loop has come, the part's bytes are stored.
+use Rattle.std.proofs.Common.{◌+◌, take}
+use Rattle.write.specs.Splice.{Wrote}
 use Rattle.write.proofs.fit_each.Given as goal
 
 abbrev pub invariant-loop-i : goal.invariant-loop-i
-invariant-loop-i l = Copying l.part l.initial.out l.at l.out l.i
-
-abbrev pub decreases-loop-i : goal.decreases-loop-i
-decreases-loop-i l = length l.part - l.i
+invariant-loop-i l = Wrote l.initial.out l.at (take l.i l.part) l.out (l.at + l.i)

@@ -1,8 +1,8 @@
-use Rattle.write.proofs.Parts.{copying_on, copying_end}
+use Rattle.write.proofs.Parts.{copied_none, copied_more}
 use Rattle.write.proofs.put_part.Goals as goal
 
-pub loop-i-preserved : goal.loop-i-preserved
-loop-i-preserved c = copying_on c.loop-i.invariant c.loop-i-test.true
+pub loop-i-init : goal.loop-i-init
+loop-i-init c = copied_none _ _
 
-pub returns : goal.returns
-returns c = copying_end c.loop-i.invariant c.loop-i-test.false
+pub loop-i-preserved : goal.loop-i-preserved
+loop-i-preserved c = copied_more _ _ c.loop-i-test.true c.loop-i.invariant

@@ -1,10 +1,8 @@
 -- Each turn notes the first statement that is left (`Seeking`).
-use Prim.Native.Nat.{◌-◌}
+use Rattle.std.proofs.Common.{length}
 use Rattle.script.proofs.Lasts.{Seeking}
 use Rattle.script.proofs.line.last_assert.Given as goal
 
-abbrev pub invariant-loop-k : goal.invariant-loop-k
-invariant-loop-k l = Seeking l.trace l.n l.k l.at l.seen l.statements l.tests
-
-abbrev pub decreases-loop-k : goal.decreases-loop-k
-decreases-loop-k l = l.n - l.k
+abbrev pub invariant-loop-at : goal.invariant-loop-at
+invariant-loop-at l =
+    Seeking l.trace l.n (length l.yielded) l.at-iterator l.noted.count l.noted.seen l.noted.statements l.noted.tests

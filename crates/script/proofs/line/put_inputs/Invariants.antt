@@ -1,10 +1,6 @@
 -- Each turn declares the first input that is left (`Declaring`).
-use Prim.Native.Nat.{◌-◌}
 use Rattle.script.proofs.Pieces.{Declaring}
 use Rattle.script.proofs.line.put_inputs.Given as goal
 
 abbrev pub invariant-loop-k : goal.invariant-loop-k
 invariant-loop-k l = Declaring l.n l.initial.out l.at l.out l.k l.to
-
-abbrev pub decreases-loop-k : goal.decreases-loop-k
-decreases-loop-k l = l.n - l.k

@@ -3,10 +3,11 @@ use Rattle.write.specs.SpliceLaws.{wrote_as}
 use Rattle.script.proofs.Pieces.{opening-assert, opening-assume}
 use Rattle.script.proofs.line.put_opening.Goals as goal
 
-pub returns-then-kind-eq3 : goal.returns-then-kind-eq3
-returns-then-kind-eq3 c =
-    (wrote_as (opening-assert _ c.if-kind-eq3.true) c.fit_part.ensures, omega (arith, c.fit_part.ensures.next))
+pub returns-in-3 : goal.returns-in-3
+returns-in-3 c =
+    (wrote_as (opening-assert _ c.in-3.is) c.fit_part.ensures, omega (arith, c.fit_part.ensures.next))
 
-pub returns : goal.returns
-returns c =
-    (wrote_as (opening-assume _ c.if-kind-eq3.false) c.fit_part-2.ensures, omega (arith, c.fit_part-2.ensures.next))
+pub returns-in_default : goal.returns-in_default
+returns-in_default c =
+    let w = c.fit_part-in_default.ensures in
+    (wrote_as (opening-assume c.args.kind (λ q. omega arith)) w, omega (arith, w.next))

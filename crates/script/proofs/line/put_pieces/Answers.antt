@@ -1,29 +1,27 @@
-use native.Mathlib.Omega.{arith}
+use Rattle.std.proofs.Common.{sym, ◌∙◌, subst}
+use Rattle.std.proofs.lemmas.List.{length_push}
 use Rattle.expr.specs.Lists.{all-at}
 use Rattle.expr.specs.Number.{Byte}
-use Rattle.script.proofs.Pieces.{listing_start, listing_good, listing_inside, listing_room, listing_on, listing_end}
+use Rattle.script.proofs.Pieces.{Listing, listing_start, listing_low, listing_good, listing_room, listing_on, listing_end}
 use Rattle.script.proofs.line.put_pieces.Goals as goal
 
-pub loop-k-init : goal.loop-k-init
-loop-k-init c =
-    listing_start _ _ _ _ _ (all-at Byte c.args.trace.now (λ i h. (c.shared_slice_known-1.given i).fits)) c.requires.0
-    c.requires.1 c.header_size-at.ensures
+pub loop-at-init : goal.loop-at-init
+loop-at-init g c =
+    listing_start _ _ _ _ _ (all-at Byte c.args.trace.now (λ i h. (c.type_inv.trace i).fits)) c.requires.0 c.requires.1
+    (c.into_iter-at-iterator.ensures.into_iter_gives ∙ c.first-at-items.ensures)
 
 pub put_piece-next-requires : goal.put_piece-next-requires
-put_piece-next-requires c = (
-  omega (arith, c.loop-k.invariant.passing.inside, c.loop-k.invariant.passing.few),
-  listing_good c.loop-k.invariant c.loop-k-test.true,
-  listing_room c.loop-k.invariant c.loop-k-test.true c.requires.2,
-)
+put_piece-next-requires g c =
+    let v = c.loop-at.invariant in
+    let e = c.in-Some.ensures.steps in
+    (listing_low v _ _ e, listing_good v _ _ e, listing_room v _ _ e c.requires.2)
 
-pub two_at-requires : goal.two_at-requires
-two_at-requires c =
-    omega (arith, listing_inside c.loop-k.invariant c.loop-k-test.true)
-
-pub loop-k-preserved : goal.loop-k-preserved
-loop-k-preserved c =
-    listing_on c.loop-k.invariant c.loop-k-test.true c.put_piece-next.ensures _ c.two_at.ensures.0
+pub loop-at-preserved : goal.loop-at-preserved
+loop-at-preserved g c =
+    subst (λ k. Listing g.S.Step.part c.args.trace.now c.args.n c.args.out.now c.args.to c.put_piece-next.new.out k c.next.new.self
+    c.put_piece-next.result)
+    (sym (length_push c.loop-at.yielded c.in-Some.at))
+    (listing_on c.loop-at.invariant _ _ c.in-Some.ensures.steps c.put_piece-next.ensures)
 
 pub returns : goal.returns
-returns c =
-    listing_end c.loop-k.invariant c.loop-k-test.false
+returns g c = listing_end c.loop-at.invariant c.in-None.ensures.steps.0

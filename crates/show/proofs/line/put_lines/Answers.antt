@@ -1,31 +1,26 @@
-use native.Mathlib.Omega.{arith}
+use Rattle.std.proofs.Common.{sym, ◌∙◌, subst}
+use Rattle.std.proofs.lemmas.List.{length_push}
 use Rattle.expr.specs.Lists.{all-at}
 use Rattle.expr.specs.Number.{Byte}
-use Rattle.show.proofs.Lines.{listing_start, listing_good, listing_inside, listing_room, listing_on, listing_end}
+use Rattle.show.proofs.Lines.{Listing, listing_start, listing_low, listing_good, listing_room, listing_on, listing_end}
 use Rattle.show.proofs.line.put_lines.Goals as goal
 
-pub loop-k-init : goal.loop-k-init
-loop-k-init c =
-    listing_start _ _ _ _ (all-at Byte c.args.trace.now
-    (λ i h. (c.shared_slice_known-1.given i).fits))
-    c.requires.0 c.requires.1 c.requires.2 c.header_size-at.ensures
+pub loop-at-init : goal.loop-at-init
+loop-at-init c =
+    listing_start _ _ _ _ (all-at Byte c.args.trace.now (λ i h. (c.type_inv.trace i).fits)) c.requires.0 c.requires.1 c.requires.2
+    (c.into_iter-at-iterator.ensures.into_iter_gives ∙ c.first-at-items.ensures)
 
 pub put_line-next-requires : goal.put_line-next-requires
-put_line-next-requires c = let v = c.loop-k.invariant in let h = c.loop-k-test.true in
-    (omega (arith, v.passing.inside, v.passing.few), listing_good v h, listing_room v h)
+put_line-next-requires c =
+    let v = c.loop-at.invariant in
+    let e = c.in-Some.ensures.steps in
+    (listing_low v _ _ e, listing_good v _ _ e, listing_room v _ _ e)
 
-pub two_at-requires : goal.two_at-requires
-two_at-requires c =
-    omega (
-      arith,
-      listing_inside c.loop-k.invariant
-          c.loop-k-test.true,
-    )
-
-pub loop-k-preserved : goal.loop-k-preserved
-loop-k-preserved c =
-    listing_on c.loop-k.invariant c.loop-k-test.true
-    c.put_line-next.ensures _ c.two_at.ensures.0
+pub loop-at-preserved : goal.loop-at-preserved
+loop-at-preserved c =
+    subst (λ k. Listing c.args.trace.now c.args.n c.args.out.now c.args.to c.put_line-next.new.out k c.next.new.self c.put_line-next.result)
+    (sym (length_push c.loop-at.yielded c.in-Some.at))
+    (listing_on c.loop-at.invariant _ _ c.in-Some.ensures.steps c.put_line-next.ensures)
 
 pub returns : goal.returns
-returns c = listing_end c.loop-k.invariant c.loop-k-test.false
+returns c = listing_end c.loop-at.invariant c.in-None.ensures.steps.0

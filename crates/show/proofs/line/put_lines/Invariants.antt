@@ -1,10 +1,7 @@
 -- Each turn writes the line of the first statement that is left (`Listing`).
-use Prim.Native.Nat.{◌-◌}
+use Rattle.std.proofs.Common.{length}
 use Rattle.show.proofs.Lines.{Listing}
 use Rattle.show.proofs.line.put_lines.Given as goal
 
-abbrev pub invariant-loop-k : goal.invariant-loop-k
-invariant-loop-k l = Listing l.trace l.n l.initial.out l.to l.out l.k l.at l.next
-
-abbrev pub decreases-loop-k : goal.decreases-loop-k
-decreases-loop-k l = l.n - l.k
+abbrev pub invariant-loop-at : goal.invariant-loop-at
+invariant-loop-at l = Listing l.trace l.n l.initial.out l.to l.out (length l.yielded) l.at-iterator l.next

@@ -1,53 +1,63 @@
-use Rattle.slice.proofs.Marks.{same-room}
+-- Each turn takes the last of the offsets that are left.
+use Prim.Native.Nat.{ℕ, suc}
 use native.Mathlib.Omega.{arith}
-use mathlib.Core.Path.{ap, ◌∙◌}
-use lib.ListN.{get_or}
+use mathlib.Core.Path.{◌≡◌, ap, ◌∙◌}
+use lib.ListN.{length, get_or}
 use Rattle.expr.specs.Lists.{All, all-at}
 use Rattle.expr.specs.Number.{Byte}
-use Rattle.file.specs.Shown.{is_good}
-use Rattle.slice.proofs.Statements.{is-loaded, counted, stands}
-use Prim.Native.Nat.{◌-◌}
 use Rattle.slice.proofs.Records.{record-length}
-use Rattle.slice.proofs.Walk.{records-small, walking_start, few-behind, small-behind, walk-on}
+use Rattle.slice.proofs.Statements.{At, is-loaded, counted, stands_at}
+use Rattle.slice.proofs.Walk.{records-small, walking_start, few-behind, small-behind, walk-on, walked, one-less, last_is, left-on}
 use Rattle.slice.proofs.back.walk_back.Goals as goal
-use Rattle.slice.proofs.back.walk_back.Goals.{After-shared_slice_known-1}
-
-bytes : (c : After-shared_slice_known-1) → All Byte c.args.trace.now
-bytes c = all-at Byte c.args.trace.now (λ i h. (c.shared_slice_known-1.given i).fits)
+use Rattle.slice.proofs.back.walk_back.Goals.{In-Some}
 
 pub loop-k-init : goal.loop-k-init
-loop-k-init c = walking_start _ _ _ c.args.n (counted c.requires.0) c.requires.1 c.requires.3
-    c.requires.4
-
-pub bounds-offsets-k : goal.bounds-offsets-k
-bounds-offsets-k c =
-    omega (
-      arith,
-      c.loop-k-test.true,
-      c.loop-k.invariant.inside,
-      counted
-          c.requires.0,
-      c.requires.0.room,
+loop-k-init c =
+    let all : c.into_iter-k-iterator.result.iter.iter.rest.now ≡ c.args.offsets.now = (cc) in (
+      cc,
+      record { few = omega (arith, ap length all); same = λ i h. ap (λ r. get_or r i 0) all },
+      walking_start _ _ _ _ (ap length all ∙ counted c.requires.0) (omega (arith, ap length all, c.requires.1)) c.requires.2 c.requires.3,
     )
+
+module _ (c : In-Some) where
+  bytes : All Byte c.args.trace.now
+  bytes = all-at Byte c.args.trace.now (λ i h. (c.type_inv.trace i).fits)
+
+  abbrev k : ℕ
+  k = length c.next.new.self.iter.iter.rest.now
+
+  next : suc k ≡ length c.loop-k.k-iterator.iter.iter.rest.now
+  next = one-less c.loop-k.invariant.1 _ _ c.in-Some.ensures.steps.1.0
+
+  k-is : c.in-Some.k ≡ k
+  k-is = omega (arith, c.loop-k.invariant.0, c.in-Some.ensures.steps.1.1)
+
+  here : At c.requires.0 k c.in-Some.field-0-1.now
+  here =
+      stands_at c.requires.0 k (omega (arith, next, c.loop-k.invariant.1.few))
+      (last_is c.loop-k.invariant.1 _ _ c.in-Some.ensures.steps.1.0)
 
 pub step_back-behind-requires : goal.step_back-behind-requires
 step_back-behind-requires c =
-    let w = c.loop-k.invariant in
-    let x = stands c.requires.0 (c.loop-k.k - 1) (omega (arith, c.loop-k-test.true, w.inside, counted c.requires.0)) in (
-      omega (arith, c.shared_slice_known-in-loop-k-1.given (c.loop-k.k - 1)),
-      same-room _ _ w.needed_long ∙ c.requires.2,
-      omega (arith, c.loop-k-test.true, w.inside, w.room),
+    let place = (goal.at.step_back-behind-requires c).In-Some in
+    let w = c.loop-k.invariant.2 in (
+      c.type_inv.at.fits,
+      omega (arith, k-is place, next place, w.inside, w.room),
       few-behind w (is-loaded c.requires.0).few,
-      small-behind w
-          (records-small c.args.trace.now (bytes (goal.at.step_back-behind-requires c).After-shared_slice_known-1) c.requires.0.accepted),
-      ap is_good x.good,
+      small-behind w (records-small c.args.trace.now (bytes place) c.requires.0.accepted),
+      (here place).good,
     )
 
 pub loop-k-preserved : goal.loop-k-preserved
 loop-k-preserved c =
-    let w = c.loop-k.invariant in
-    let x = stands c.requires.0 (c.loop-k.k - 1) (omega (arith, c.loop-k-test.true, w.inside, counted c.requires.0)) in
-    walk-on w c.loop-k-test.true x.statement x.after x.is-here _
-    (record-length c.args.trace.now (get_or c.args.offsets.now (c.loop-k.k - 1) 0)
-    (bytes (goal.at.loop-k-preserved c).After-shared_slice_known-1) x.statement x.good)
-    _ x.good c.step_back-behind.ensures c.step_back-behind.auto.kept c.step_back-behind.auto.needed
+    let place = (goal.at.loop-k-preserved c).In-Some in
+    let x = here place in (
+      c.next.ensures.steps.0 ∙ c.loop-k.invariant.0,
+      left-on c.loop-k.invariant.1 _ _ c.in-Some.ensures.steps.1.0,
+      walk-on c.loop-k.invariant.2 (next place) x.is-here
+          (record-length c.args.trace.now c.in-Some.field-0-1.now (bytes place) x.statement x.is-held)
+          x.is-held (k-is place) c.step_back-behind.ensures c.step_back-behind.auto.kept,
+    )
+
+pub returns : goal.returns
+returns c = walked c.loop-k.invariant.2 (omega (arith, c.in-None.ensures.steps.1.0))

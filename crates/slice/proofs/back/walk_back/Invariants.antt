@@ -1,12 +1,14 @@
--- The invariant is `Walking`: see there. Each turn goes one statement back.
+-- What is left of the iterator are the first offsets; with the statements behind them the walk is as `Walking` says.
+use mathlib.Core.Path.{◌≡◌}
+use lib.ListN.{length}
 use Rattle.file.specs.Shown.{listed}
 use Rattle.trace.specs.Trace.{read_trace}
-use Rattle.slice.proofs.Walk.{Walking}
+use Rattle.slice.specs.Shown.{in_set}
+use Rattle.slice.proofs.Walk.{Left, Walking}
 use Rattle.slice.proofs.back.walk_back.Given as goal
 
 abbrev pub invariant-loop-k : goal.invariant-loop-k
 invariant-loop-k l =
-    Walking (listed (read_trace l.trace)) l.initial.kept l.initial.needed l.kept l.needed l.k l.behind
-
-abbrev pub decreases-loop-k : goal.decreases-loop-k
-decreases-loop-k l = l.k
+    let left = l.k-iterator.iter.iter.rest.now in
+    (l.k-iterator.iter.count ≡ 0) × Left l.offsets left
+    × Walking (listed (read_trace l.trace)) l.initial.kept l.kept (in_set l.needed) (length left) l.behind

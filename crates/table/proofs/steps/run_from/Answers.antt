@@ -10,83 +10,72 @@ use Rattle.file.specs.Shown.{is_good, listed}
 use Rattle.table.specs.Table.{read_table}
 use Rattle.table.proofs.Running.{Loaded, loaded, On, start, here, end, halts, goes_on}
 use Rattle.table.proofs.steps.run_from.Goals as goal
-use Rattle.table.proofs.steps.run_from.Goals.{After-shared_slice_known-1, In-Go, Start}
+use Rattle.table.proofs.steps.run_from.Goals.{After-shared_slice_known-1, In-Ok}
 
 -- what the loop knows of the table, from the function's entry and the bytes' own range
 module _ (c : After-shared_slice_known-1) where
+  abbrev n : ℕ
+  n = length c.args.offsets.now
+
   bytes : All Byte c.args.table.now
   bytes = all-at Byte c.args.table.now (λ i h. (c.shared_slice_known-1.given i).fits)
 
-  is-loaded : Loaded c.args.table.now (head_of c.args.table.now)
-      (listed (read_table c.args.table.now))
+  is-loaded : Loaded c.args.table.now (head_of c.args.table.now) (listed (read_table c.args.table.now))
   is-loaded = loaded c.args.table.now bytes c.requires.1.accepted
 
-  counted : length (listed (read_table c.args.table.now)) ≡ c.args.n
+  counted : length (listed (read_table c.args.table.now)) ≡ n
   counted = is-loaded.table.count ∙ sym c.requires.1.count
 
   symbols : (vals : List ℕ) → length vals ≡ length c.args.vals.now → header_inputs c.args.table.now ≤ length vals
   symbols vals e = omega (arith, c.requires.2)
 
-  few : c.args.n ≤ 1024
+  few : n ≤ 1024
   few = omega (arith, counted, is-loaded.table.few)
 
-pub loop-i-init : goal.loop-i-init
-loop-i-init c =
-    let place = (goal.at.loop-i-init c).After-shared_slice_known-1 in
-    start c.args.table.now c.args.offsets.now c.args.n c.args.bound (length c.args.vals.now) _ _ (is-loaded place)
+pub loop-spot-init : goal.loop-spot-init
+loop-spot-init c =
+    let place = (goal.at.loop-spot-init c).After-shared_slice_known-1 in
+    start c.args.table.now c.args.offsets.now (n place) c.args.bound (length c.args.vals.now) _ _ (is-loaded place)
     (counted place) (symbols place c.args.vals.now refl) c.requires.1.stored c.args.vals.now
 
-pub step_at-m-requires : goal.step_at-m-requires
-step_at-m-requires c =
-    let place = (goal.at.step_at-m-requires c).After-shared_slice_known-1 in
-    let v = c.loop-i.invariant in (
-      omega (arith, c.shared_slice_known-in-loop-i-1.given c.loop-i.i),
+pub step-requires : goal.step-requires
+step-requires c =
+    let place = (goal.at.step-requires c).After-shared_slice_known-1 in
+    let v = c.loop-spot.invariant in (
+      omega (arith, c.type_inv.offsets c.loop-spot.spot.i),
       few place,
-      c.loop-i-test.true,
+      c.loop-spot-test.true,
       v.few,
       c.requires.0,
-      ap is_good (here c.args.table.now c.args.offsets.now c.args.n c.args.bound (length c.loop-i.vals) _ _
-          (is-loaded place) (counted place) (symbols place c.loop-i.vals v.long) c.requires.1.stored c.args.vals.now c.loop-i.i
-          c.loop-i-test.true).good,
+      ap is_good (here c.args.table.now c.args.offsets.now (n place) c.args.bound (length c.loop-spot.vals) _ _
+          (is-loaded place) (counted place) (symbols place c.loop-spot.vals v.long) c.requires.1.stored c.args.vals.now c.loop-spot.spot.i
+          c.loop-spot-test.true).good,
     )
 
 -- a turn that goes on
-module _ (c : In-Go) where
-  abbrev s : Start
-  s = (goal.at.In-Go c).Start
+on : (c : In-Ok) → On (listed (read_table c.args.table.now)) c.args.bound (length c.args.offsets.now) c.args.vals.now c.step.new.vals
+    c.loop-spot.spot.i c.loop-spot.spot.r c.in-Ok.next.i c.in-Ok.next.r
+on c =
+    let place = (goal.at.In-Ok c).After-shared_slice_known-1 in
+    let v = c.loop-spot.invariant in
+    goes_on c.args.table.now c.args.offsets.now (n place) c.args.bound (length c.loop-spot.vals) _ _ (is-loaded place) (counted place)
+    (symbols place c.loop-spot.vals v.long) c.requires.1.stored c.args.vals.now v c.loop-spot-test.true c.step.result c.step.new.vals
+    c.step.ensures c.step.auto.vals c.in-Ok.next c.in-Ok.is
 
-  abbrev table : List ℕ
-  table = c.args.table.now
+pub loop-spot-preserved : goal.loop-spot-preserved
+loop-spot-preserved c = (on (goal.at.loop-spot-preserved c).In-Ok).running
 
-  abbrev left-vals : List ℕ
-  left-vals = c.step_at-m.new.vals
-
-  on : On (listed (read_table table)) s.args.bound s.args.n s.args.vals.now left-vals
-      c.loop-i.i
-      c.loop-i.r c.in-Go.next
-      c.in-Go.taken
-  on =
-      let v = c.loop-i.invariant in
-      goes_on table s.args.offsets.now s.args.n s.args.bound (length c.loop-i.vals) _ _
-      (is-loaded (goal.at.In-Go c).After-shared_slice_known-1) (counted (goal.at.In-Go c).After-shared_slice_known-1)
-      (symbols (goal.at.In-Go c).After-shared_slice_known-1 c.loop-i.vals v.long) s.requires.1.stored s.args.vals.now v c.loop-i-test.true _
-      left-vals
-      c.step_at-m.ensures c.step_at-m.auto.vals _ _ c.in-Go.is
-
-pub loop-i-preserved : goal.loop-i-preserved
-loop-i-preserved c = (on (goal.at.loop-i-preserved c).In-Go).running
-
-pub returns-in-End : goal.returns-in-End
-returns-in-End c =
-    let place = (goal.at.returns-in-End c).After-shared_slice_known-1 in
-    let v = c.loop-i.invariant in
-    halts c.args.table.now c.args.offsets.now c.args.n c.args.bound (length c.loop-i.vals) _ _ (is-loaded place)
-    (counted place) (symbols place c.loop-i.vals v.long) c.requires.1.stored c.args.vals.now v c.loop-i-test.true _
-    c.step_at-m.new.vals c.step_at-m.ensures _ _ c.in-End.is
+pub returns-in-Err : goal.returns-in-Err
+returns-in-Err c =
+    let place = (goal.at.returns-in-Err c).After-shared_slice_known-1 in
+    let v = c.loop-spot.invariant in
+    halts c.args.table.now c.args.offsets.now (n place) c.args.bound (length c.loop-spot.vals) _ _ (is-loaded place) (counted place)
+    (symbols place c.loop-spot.vals v.long) c.requires.1.stored c.args.vals.now v c.loop-spot-test.true c.step.result c.step.new.vals
+    c.step.ensures c.in-Err.failure c.in-Err.is
 
 pub returns : goal.returns
 returns c =
     let place = (goal.at.returns c).After-shared_slice_known-1 in
-    let v = c.loop-i.invariant in
-    end c.args.table.now c.args.offsets.now c.args.n c.args.bound (length c.loop-i.vals) _ _ (is-loaded place)
-    (counted place) (symbols place c.loop-i.vals v.long) c.requires.1.stored c.args.vals.now v c.loop-i-test.false
+    let v = c.loop-spot.invariant in
+    end c.args.table.now c.args.offsets.now (n place) c.args.bound (length c.loop-spot.vals) _ _ (is-loaded place)
+    (counted place) (symbols place c.loop-spot.vals v.long) c.requires.1.stored c.args.vals.now v c.loop-spot-test.false

@@ -6,8 +6,9 @@ use Rattle.table.specs.RunLaws.{left}
 use Rattle.table.proofs.Running.{Running}
 use Rattle.table.proofs.steps.run_from.Given as goal
 
-abbrev pub invariant-loop-i : goal.invariant-loop-i
-invariant-loop-i l = Running (listed (read_table l.table)) l.bound l.n l.initial.vals l.vals l.i l.r
+abbrev pub invariant-loop-spot : goal.invariant-loop-spot
+invariant-loop-spot l =
+    Running (listed (read_table l.table)) l.bound (length l.offsets) l.initial.vals l.vals l.spot.i l.spot.r
 
-abbrev pub decreases-loop-i : goal.decreases-loop-i
-decreases-loop-i l = left (length (listed (read_table l.table))) l.bound l.i l.r
+abbrev pub decreases-loop-spot : goal.decreases-loop-spot
+decreases-loop-spot l = left (length (listed (read_table l.table))) l.bound l.spot.i l.spot.r

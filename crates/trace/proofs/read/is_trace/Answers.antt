@@ -6,6 +6,6 @@ pub returns-then-version-eq-VERSION : goal.returns-then-version-eq-VERSION
 unfolding is_trace trace_version old_version
 returns-then-version-eq-VERSION c = rw (eq-eqb _ _ c.if-version-eq-VERSION.true)
 
-pub returns : goal.returns
+pub returns-else-version-eq-VERSION : goal.returns-else-version-eq-VERSION
 unfolding is_trace trace_version old_version
-returns c = rw (ne_eqb _ _ c.if-version-eq-VERSION.false)
+returns-else-version-eq-VERSION c = rw (ne_eqb _ _ c.if-version-eq-VERSION.false)

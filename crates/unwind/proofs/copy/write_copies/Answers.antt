@@ -11,7 +11,7 @@ use Rattle.unwind.proofs.copy.write_copies.Goals as goal
 use Rattle.unwind.proofs.copy.write_copies.Goals.{After-shared_slice_known-1}
 
 count-is : (c : After-shared_slice_known-1) → length (listed (read_table c.args.table.now))
-    ≡ c.args.n
+    ≡ length c.args.offsets.now
 count-is c = counted _ _ _ (all-at Byte c.args.table.now (λ i h. (c.shared_slice_known-1.given i).fits)) c.requires.2
 
 pub loop-r-init : goal.loop-r-init
@@ -38,3 +38,10 @@ loop-r-preserved c =
 
 pub returns : goal.returns
 returns c = copies-end (count-is (goal.at.returns c).After-shared_slice_known-1) c.loop-r.invariant c.loop-r-test.false
+
+-- behind the last copy
+pub returns-2 : goal.returns-2
+returns-2 c =
+    let q = count-is (goal.at.returns-2 c).After-shared_slice_known-1 in
+    copies-end q
+    (copies-on q c.loop-r.invariant c.loop-r-test.true _ _ _ c.write_copy-g.auto.names c.write_copy-g.ensures) (omega arith)

@@ -16,16 +16,16 @@ module _ (c : After-shared_slice_known-1) where
   bytes : All Byte c.args.table.now
   bytes = all-at Byte c.args.table.now (λ i h. (c.shared_slice_known-1.given i).fits)
 
-  count-is : length (listed (read_table c.args.table.now)) ≡ c.args.n
+  count-is : length (listed (read_table c.args.table.now)) ≡ length c.args.offsets.now
   count-is = counted _ _ _ bytes c.requires.3
 
-  n-few : c.args.n ≤ 1024
+  n-few : length c.args.offsets.now ≤ 1024
   n-few = few _ _ _ bytes c.requires.3
 
-  exit-little : c.args.r * (c.args.n + 1) + c.args.n ≤ 263424
+  exit-little : c.args.r * (length c.args.offsets.now + 1) + length c.args.offsets.now ≤ 263424
   exit-little = place-little _ _ _ n-few (omega arith) (omega (arith, c.requires.0, c.requires.1))
 
-  end-little : (c.args.bound + 1) * (c.args.n + 1) + 0 ≤ 263424
+  end-little : (c.args.bound + 1) * (length c.args.offsets.now + 1) + 0 ≤ 263424
   end-little = place-little _ _ _ n-few (omega arith) (omega (arith, c.requires.1))
 
 pub write_place-g-requires : goal.write_place-g-requires
@@ -35,7 +35,7 @@ write_place-g-requires c =
     let v = c.loop-i.invariant in
     let h = c.loop-i-test.true in
     let o = bytes place in (
-      omega (arith, c.shared_slice_known-in-loop-i-1.given c.loop-i.i),
+      c.type_inv.at.fits,
       n-few place,
       h,
       pre.0,

@@ -13,7 +13,7 @@ bytes c = all-at Byte c.args.table.now (λ i h. (c.shared_slice_known-1.given i)
 pub instr_sizes-s-requires : goal.instr_sizes-s-requires
 instr_sizes-s-requires c =
     let place = (goal.at.instr_sizes-s-requires c).After-shared_slice_known-1 in (
-      omega (arith, c.shared_slice_known-in-loop-i-1.given c.loop-i.i),
+      c.type_inv.at.fits,
       small _ _ _ (bytes place)
           c.requires,
       readable _ _ _ (bytes place)

@@ -1,5 +1,4 @@
--- The invariant is `Summing`, for both sizes: see there. Each turn leaves fewer instructions.
-use Prim.Native.Nat.{◌-◌}
+-- The invariant is `Summing`, for both sizes: see there.
 use mathlib.Core.Bool.{true, false}
 use Rattle.file.specs.Shown.{listed}
 use Rattle.table.specs.Table.{read_table}
@@ -9,6 +8,3 @@ use Rattle.unwind.proofs.size.copy_sizes.Given as goal
 abbrev pub invariant-loop-i : goal.invariant-loop-i
 invariant-loop-i l =
     Summing false (listed (read_table l.table)) l.i l.early × Summing true (listed (read_table l.table)) l.i l.last
-
-abbrev pub decreases-loop-i : goal.decreases-loop-i
-decreases-loop-i l = l.n - l.i

@@ -1,0 +1,7 @@
+-- A claim has nothing of an Assign.
+use native.Mathlib.Omega.{arith}
+use Rattle.script.proofs.Letters.{wrote_none}
+use Rattle.script.proofs.line.ClaimStep.put_assign.Goals as goal
+
+pub returns : goal.returns
+returns c = (wrote_none _ _, omega arith)
