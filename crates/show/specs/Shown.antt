@@ -6,7 +6,7 @@ use Rattle.expr.specs.Token.{Token, operator}
 use Rattle.file.specs.File.{Body, Good, Bad}
 use Rattle.trace.specs.Trace.{Stmt}
 use Rattle.write.specs.Splice.{over, Wrote}
-use Rattle.show.specs.declared.Answer.{Answer}
+use Rattle.write.specs.declared.Written.{Written}
 use Rattle.write.specs.Ascii.{ascii}
 use Rattle.show.specs.Text.{token_text, stmt_line}
 use Rattle.show.specs.Answer.{fitting, numbers}
@@ -39,6 +39,6 @@ abbrev pub Counts : (left : MutBor (List ℕ) → ℕ → MutBor (List ℕ) → 
 Counts left limit = (out : MutBor (List ℕ)) (n : ℕ) (out' : MutBor (List ℕ)) → left out n out' → n < limit
 
 -- a text in a buffer that holds it, or refusal 10
-pub record Fitted (text out out' : List ℕ) (r : Answer) : Type 0 where
+pub record Fitted (text out out' : List ℕ) (r : Written) : Type 0 where
   pub answer : r ≡ numbers (fitting (length out) text)
   pub buffer : out' ≡ over (fitting (length out) text).bytes out
