@@ -12,7 +12,6 @@ use Rattle.unwind.specs.Answer.{TraceWritten}
 use Rattle.slice.specs.declared.Answer as Sliced
 use Rattle.slice.specs.Answer.{SliceWritten}
 use Rattle.script.specs.Answer.{ScriptWritten}
-use Rattle.show.specs.declared.Answer as Shown
 use Rattle.show.specs.Answer.{SliceShown}
 use Rattle.kadvitul.specs.Interface.{VersionGives, RunNumber, RunGives, JudgeNumber, JudgeGives, TraceNumber, TraceGives, SliceNumber}
 use Rattle.kadvitul.specs.Interface.{SliceGives, ScriptNumber, ScriptGives}
@@ -59,7 +58,7 @@ pub write_script_determined : (trace out o o' : List ℕ) (r r' : Written)
 write_script_determined trace out o o' r r' h k = (h.answer ∙ sym k.answer, h.buffer ∙ sym k.buffer)
 
 -- `show_slice`: the answer, and what the buffer `out` holds afterwards
-pub show_slice_determined : (input out o o' : List ℕ) (r r' : Shown.Answer)
+pub show_slice_determined : (input out o o' : List ℕ) (r r' : Written)
     → SliceShown input out o r → SliceShown input out o' r' → (r ≡ r') × (o ≡ o')
 show_slice_determined input out o o' r r' h k = (h.answer ∙ sym k.answer, h.buffer ∙ sym k.buffer)
 

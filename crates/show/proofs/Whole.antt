@@ -23,7 +23,7 @@ use Rattle.slice.specs.Slice.{slice}
 use Rattle.slice.proofs.SliceLaws.{slice_fits, slice-accepted, slice-done}
 use Rattle.slice.specs.Answer.{slice_of, slice_answer}
 use Rattle.show.specs.Text.{refusal_text, trace_text, sliced_text, traced_text, printed}
-use Rattle.show.specs.declared.Answer.{Answer}
+use Rattle.write.specs.declared.Written.{Written}
 use Rattle.show.specs.Answer.{Shown, refusal, show_answer, numbers, SliceShown}
 use Rattle.show.specs.Shown.{Fitted}
 
@@ -110,7 +110,7 @@ module _ {text one one' : List ℕ} {size : ℕ} (m : Wrote one 0 text one' size
   size_is : size ≡ length text
   size_is = m.next ∙ omega arith
 
-  pub no_room : {r : Answer} → length out < size → r ≡ numbers (refusal 10 0) → Fitted text out out r
+  pub no_room : {r : Written} → length out < size → r ≡ numbers (refusal 10 0) → Fitted text out out r
   no_room {r} h e =
       let f : leb (length text) (length out) ≡ false = lt-leb (length text) (length out) (omega (arith, size_is)) in
       record { answer = e ∙ sym (ap (λ b. numbers (tested b)) f); buffer = sym (ap (λ b. over (tested b).bytes out) f) }
@@ -125,9 +125,9 @@ module _ {text one one' : List ℕ} {size : ℕ} (m : Wrote one 0 text one' size
         buffer = w.buffer ∙ splice-over text out (omega (arith, size_is)) ∙ sym (ap (λ b. over (tested b).bytes out) t);
       }
 
-pub fitted_as : {text other out out' : List ℕ} {r : Answer} → text ≡ other → Fitted text out out' r → Fitted other out out' r
+pub fitted_as : {text other out out' : List ℕ} {r : Written} → text ≡ other → Fitted text out out' r → Fitted other out out' r
 fitted_as {out = out} {out'} {r} e f = subst (λ t. Fitted t out out' r) e f
 
-pub shown : {input out out' : List ℕ} {r : Answer} → Fitted (printed input) out out' r → SliceShown input out out' r
+pub shown : {input out out' : List ℕ} {r : Written} → Fitted (printed input) out out' r → SliceShown input out out' r
 unfolding show_answer
 shown f = record { answer = f.answer; buffer = f.buffer }

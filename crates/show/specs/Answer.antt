@@ -1,7 +1,7 @@
 -- The answer of the printer's one public call, for every input: the whole text, or refusal 10 where the buffer is shorter than the text.
 use Rattle.std.specs.Prelude.{ℕ, ◌≡◌, cond, List, [], length, leb}
 use Rattle.write.specs.Splice.{over}
-use Rattle.show.specs.declared.Answer.{Answer}
+use Rattle.write.specs.declared.Written.{Written}
 use Rattle.show.specs.Text.{printed}
 
 -- the text is written from the buffer's first byte on, and the length answered is its
@@ -21,9 +21,9 @@ show_answer input room = fitting room (printed input)
 
 -- ---- what the call answers and leaves in the buffer
 
-abbrev pub numbers : Shown → Answer
+abbrev pub numbers : Shown → Written
 numbers q = record { reply = q.reply; offset = q.offset; length = length q.bytes }
 
-pub record SliceShown (input out out' : List ℕ) (r : Answer) : Type 0 where
+pub record SliceShown (input out out' : List ℕ) (r : Written) : Type 0 where
   pub answer : r ≡ numbers (show_answer input (length out))
   pub buffer : out' ≡ over (show_answer input (length out)).bytes out

@@ -5,7 +5,7 @@ use Rattle.std.proofs.Common.{arith, leb-true, leb-false, le-leb}
 use Rattle.std.proofs.Math.Path.{ap}
 use Rattle.std.proofs.Math.ListN.{length, length-append}
 use Rattle.write.specs.Splice.{over}
-use Rattle.show.specs.declared.Answer.{Answer}
+use Rattle.write.specs.declared.Written.{Written}
 use Rattle.show.specs.Text.{printed}
 use Rattle.show.specs.Answer.{Shown, refusal, fitting, show_answer, numbers, SliceShown}
 
@@ -19,7 +19,7 @@ by-room P text room enough short = go (leb (length text) room) refl
     go true e = enough (leb-true (length text) room e)
     go false e = short (leb-false (length text) room e)
 
-module _ (input out out' : List ℕ) (r : Answer) (s : SliceShown input out out' r) where
+module _ (input out out' : List ℕ) (r : Written) (s : SliceShown input out out' r) where
   -- refused 10, exactly where the buffer is shorter than the text
   pub show_refused : (r.reply ≡ 10) ↔ (length out < length (printed input))
   unfolding show_answer

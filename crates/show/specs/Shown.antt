@@ -4,7 +4,7 @@ use Rattle.std.specs.Borrow.{MutBor}
 use Rattle.file.specs.File.{Body, Good, Bad}
 use Rattle.trace.specs.Trace.{Stmt}
 use Rattle.write.specs.Splice.{over, Wrote}
-use Rattle.show.specs.declared.Answer.{Answer}
+use Rattle.write.specs.declared.Written.{Written}
 use Rattle.show.specs.Text.{stmt_line}
 use Rattle.show.specs.Answer.{fitting, numbers}
 
@@ -23,6 +23,6 @@ abbrev pub Counts : (left : MutBor (List ℕ) → ℕ → MutBor (List ℕ) → 
 Counts left limit = (out : MutBor (List ℕ)) (n : ℕ) (out' : MutBor (List ℕ)) → left out n out' → n < limit
 
 -- a text in a buffer that holds it, or refusal 10
-pub record Fitted (text out out' : List ℕ) (r : Answer) : Type 0 where
+pub record Fitted (text out out' : List ℕ) (r : Written) : Type 0 where
   pub answer : r ≡ numbers (fitting (length out) text)
   pub buffer : out' ≡ over (fitting (length out) text).bytes out

@@ -9,32 +9,17 @@ ghost use Rattle.file.specs.Shown.{is_accepted};
 ghost use Rattle.trace.specs.Trace.{read_trace};
 ghost use Rattle.slice.specs.Answer.{slice_answer};
 ghost use Rattle.show.specs.Text.{refusal_text, trace_text, sliced_text};
-ghost use Rattle.show.specs.Answer.{refusal, numbers, SliceShown};
+ghost use Rattle.show.specs.Answer.{SliceShown};
 ghost use Rattle.show.specs.Shown.{Puts, Counts, Fitted};
 
-// The answer to showing a slice: a reply and its offset, and the length of the text.
-#[derive(Clone, Copy)]
-pub struct Answer {
-    pub reply: u32,
-    pub offset: u32,
-    pub length: u32,
-}
+use file::Reason;
+pub use write::Written as Answer;
 
 // Room for any trace.
 fn room() -> [u8; 65535]
     ensures { length result ≡ 65535 }
 {
     [0; 65535]
-}
-
-fn too_small() -> Answer
-    ensures { result ≡ numbers (refusal 10 0) }
-{
-    Answer {
-        reply: 10,
-        offset: 0,
-        length: 0,
-    }
 }
 
 // A text, by what writes it into a buffer and counts its letters. It is measured before the first letter is written.
@@ -46,14 +31,9 @@ fn show_text<W: Fn(&mut [u8]) -> usize>(put: W, out: &mut [u8]) -> Answer
     let mut one: [u8; 1] = [0; 1];
     let size = put(&mut one);
     if out.len() < size {
-        return too_small();
+        return Answer::of(Err(Reason::ShortBuffer.into()));
     }
-    let length = put(out);
-    Answer {
-        reply: 0,
-        offset: 0,
-        length: length as u32,
-    }
+    Answer::of(Ok(put(out) as u32))
 }
 
 // The text of a refusal.

@@ -4,4 +4,5 @@ use Rattle.show.proofs.show_text.Goals as goal
 
 pub returns : goal.returns
 returns g c =
-    λ text puts. written (puts _ _ _ c.put-size.ensures) _ c.if-out-size.false (puts _ _ _ c.put-length.ensures)
+    λ text puts.
+    rw c.of-2.ensures (written (puts _ _ _ c.put-size.ensures) _ c.if-out-size.false (puts _ _ _ c.put.ensures))
