@@ -1,10 +1,11 @@
 -- What the code's values mean: its answers as functions of the definitions.
-use Rattle.std.specs.Prelude.{ℕ, ◌≡◌, Bool, List, [], get_or}
+use Rattle.std.specs.Prelude.{ℕ, ◌≡◌, Bool, List, [], length, get_or}
 use Rattle.std.proofs.Math.Option.{Option, none, some}
-use Rattle.expr.specs.declared.File.TheVariants.{Trace}
+use Rattle.expr.specs.declared.File.TheVariants.{Table, Trace}
 use Rattle.expr.specs.Token.{Token, token_bytes}
-use Rattle.expr.specs.Expr.{below}
-use Rattle.expr.specs.Eval.{rename_token}
+use Rattle.expr.specs.Expr.{below, parse}
+use Rattle.expr.specs.Shown.{tokens_of}
+use Rattle.expr.specs.Eval.{rename_token, rename}
 use Rattle.file.specs.Outcome.{Bound}
 use Rattle.file.specs.File.{input_room, Body, Good, Bad, records_bytes}
 use Rattle.table.specs.Table.{Instr}
@@ -31,6 +32,13 @@ newest_of names control next = record { current = current_of names; control = co
 -- every symbol that a table can have
 abbrev pub known : ℕ → Bool
 known = below input_room
+
+-- the tokens of a table's expression, and the same with the current symbols
+abbrev pub tokens_in : (names expr : List ℕ) → List Token
+tokens_in names expr = tokens_of (parse Table (below (length names)) expr)
+
+abbrev pub renamed : (names expr : List ℕ) → List Token
+renamed names expr = rename (current_of names) (tokens_in names expr)
 
 -- the bytes of a token in a trace
 abbrev pub renamed_bytes : (ℕ → ℕ) → Option Token → List ℕ
