@@ -29,11 +29,7 @@ impl Front {
     fn tested(self, to: usize) -> Front
         ensures { result ≡ record { control = self.control; next = self.next; to = to } }
     {
-        Front {
-            control: self.control,
-            next: self.next,
-            to: to,
-        }
+        Front { to, ..self }
     }
 
     // Behind an Assign of the next new symbol.
@@ -42,9 +38,9 @@ impl Front {
         ensures { result ≡ record { control = self.control; next = self.next + 1; to = to } }
     {
         Front {
-            control: self.control,
             next: self.next + 1,
-            to: to,
+            to,
+            ..self
         }
     }
 
@@ -56,7 +52,7 @@ impl Front {
         Front {
             control: self.next,
             next: self.next + 1,
-            to: to,
+            to,
         }
     }
 }
@@ -192,15 +188,16 @@ fn write_copy(
         × Ready table.now offsets.now (length offsets.now)
         × (header_inputs table.now ≤ length names.old)
         × (f.to + length (records_bytes stmt_bytes
-        (statements Bound (newest_of names.old f.control f.next) (copy_from (length offsets.now) bound r 0 (listed (read_table table.now)))))
+        (statements Bound (newest_of names.old f.control f.next)
+        (copy_from (length offsets.now) bound r 0 (listed (read_table table.now)))))
         ≤ length out.old) }
     ensures { Written (newest_of names.old f.control f.next)
         (copy_from (length offsets.now) bound r 0 (listed (read_table table.now))) out.old f.to out.new names.new result }
 {
     let copy = Round {
         n: offsets.len(),
-        bound: bound,
-        r: r,
+        bound,
+        r,
     };
     let mut g = f;
     for (i, &at) in offsets.iter().enumerate() {

@@ -93,6 +93,6 @@ put_bound-to-requires c =
 pub returns : goal.returns
 returns c =
     rw c.tested.ensures
-    (bound-written c.args.names.now (held (goal.at.returns c).Start) c.args.copy.bound c.args.copy.r c.args.i c.args.f.control c.args.f.next _
-    c.expr_at.ensures c.requires.5 c.two_at-t.result c.two_at-t.ensures.0 c.if-i-t.false c.if-copy.false _ c.place.ensures.0
-    c.put_bound-to.ensures)
+    (bound-written c.args.names.now (held (goal.at.returns c).Start) c.args.copy.bound c.args.copy.r c.args.i c.args.f.control
+    c.args.f.next _ c.expr_at.ensures c.requires.5 c.two_at-t.result c.two_at-t.ensures.0 c.if-i-t.false c.if-copy.false _
+    c.place.ensures.0 c.put_bound-to.ensures)

@@ -84,5 +84,5 @@ put_test-to-requires c =
 pub returns : goal.returns
 returns c =
     rw c.tested.ensures
-    (test-written c.args.names.now (held (goal.at.returns c).Start) c.args.copy.bound c.args.copy.r c.args.i c.args.f.control c.args.f.next _
-    c.expr_at.ensures c.if-kind-eq1.false c.if-kind-eq4.false _ c.place.ensures.0 c.put_test-to.ensures)
+    (test-written c.args.names.now (held (goal.at.returns c).Start) c.args.copy.bound c.args.copy.r c.args.i c.args.f.control
+    c.args.f.next _ c.expr_at.ensures c.if-kind-eq1.false c.if-kind-eq4.false _ c.place.ensures.0 c.put_test-to.ensures)

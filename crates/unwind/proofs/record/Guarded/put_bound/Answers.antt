@@ -37,6 +37,7 @@ pub returns : goal.returns
 returns c =
     let a = c.args in
     let g = a.self in
-    closes (Test Bound g.place (guarded g.control g.place (rename (current_of g.names.now) (tokens_in g.names.now g.expr.now ++ Un Zero ∷ [])) (Const 1)))
+    closes (Test Bound g.place (guarded g.control g.place
+    (rename (current_of g.names.now) (tokens_in g.names.now g.expr.now ++ Un Zero ∷ [])) (Const 1)))
     (c.open_test-a.ensures then c.put_guard-b.ensures then c.put_tokens-c.ensures then c.put_byte-d.ensures then c.put_holds-f.ensures)
     (bound-bytes g.control g.place (tokens_in g.names.now g.expr.now) (current_of g.names.now)) c.close.ensures
