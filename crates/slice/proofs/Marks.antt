@@ -89,7 +89,8 @@ module _ (s : List ℕ) (k : ℕ) (l : length s ≡ 65) (h : k < symbol_room) (x
       ap (λ w. eqb (bit (x % 64) w) 1) (get_or-set_other s (k / 64) (x / 64) _ 0 n)
       ∙ sym (ap (λ b. b || eqb (bit (x % 64) (get_or s (x / 64) 0)) 1) (ne_eqb x k (λ e. n (ap (λ n. n / 64) e))))
 
-  pub in_marked : in_set (of_words (set s (k / 64) (bit_or (get_or s (k / 64) 0) (1 * 2 ^ (k % 64) % 2 ^ 64)))) x ≡ (eqb x k || in_set (of_words s) x)
+  pub in_marked : in_set (of_words (set s (k / 64) (bit_or (get_or s (k / 64) 0) (1 * 2 ^ (k % 64) % 2 ^ 64)))) x
+      ≡ (eqb x k || in_set (of_words s) x)
   in_marked = go (eqb (x / 64) (k / 64)) refl
     where
       go : (b : Bool) → eqb (x / 64) (k / 64) ≡ b → in_set (of_words marked) x ≡ (eqb x k || in_set (of_words s) x)

@@ -58,7 +58,8 @@ module _ {all rest : List ℕ} (l : Left all rest) (rest' : List ℕ) (x : ℕ) 
 
   pub last_is : x ≡ get_or all (length rest') 0
   last_is =
-      sym (ap (λ r. get_or r (length rest') 0) e ∙ get_or_push rest' x 0 (length rest') refl) ∙ l.same (length rest') (omega (arith, one-less))
+      sym (ap (λ r. get_or r (length rest') 0) e ∙ get_or_push rest' x 0 (length rest') refl)
+      ∙ l.same (length rest') (omega (arith, one-less))
 
   pub left-on : Left all rest'
   left-on = record {

@@ -1,6 +1,10 @@
 -- What the code's values mean: its answers as functions of the definitions.
-use Rattle.std.specs.Prelude.{ℕ, ◌≡◌, Bool, List, get_or}
-use Rattle.expr.specs.Expr.{below}
+use Rattle.std.specs.Prelude.{ℕ, ◌≡◌, Bool, List, [], length, get_or}
+use Rattle.expr.specs.declared.File.TheVariants.{Table}
+use Rattle.expr.specs.declared.token.Token.{Token}
+use Rattle.expr.specs.Expr.{below, parse}
+use Rattle.expr.specs.Shown.{tokens_of}
+use Rattle.expr.specs.Eval.{rename}
 use Rattle.file.specs.Outcome.{Bound}
 use Rattle.file.specs.File.{input_room, Body, Good, Bad, records_bytes}
 use Rattle.table.specs.Table.{Instr}
@@ -27,6 +31,13 @@ newest_of names control next = record { current = current_of names; control = co
 -- every symbol that a table can have
 abbrev pub known : ℕ → Bool
 known = below input_room
+
+-- the tokens of a table's expression, and the same with the current symbols
+abbrev pub tokens_in : (names expr : List ℕ) → List Token
+tokens_in names expr = tokens_of (parse Table (below (length names)) expr)
+
+abbrev pub renamed : (names expr : List ℕ) → List Token
+renamed names expr = rename (current_of names) (tokens_in names expr)
 
 -- ---- places
 

@@ -12,6 +12,7 @@ ghost use Rattle.unwind.specs.Unwind.{statements};
 ghost use Rattle.unwind.specs.Shown.{newest_of, place_of, Written};
 
 use super::record;
+use super::record::Guarded;
 use expr::number;
 use table::read;
 
@@ -23,105 +24,154 @@ pub struct Front {
     pub to: usize,
 }
 
-// The jump of instruction i in copy r, whose record stands at a place of the table.
+impl Front {
+    // Behind a test, up to a place of the buffer.
+    fn tested(self, to: usize) -> Front
+        ensures { result ≡ record { control = self.control; next = self.next; to = to } }
+    {
+        Front { to, ..self }
+    }
+
+    // Behind an Assign of the next new symbol.
+    fn assigned(self, to: usize) -> Front
+        requires { self.next < 65535 }
+        ensures { result ≡ record { control = self.control; next = self.next + 1; to = to } }
+    {
+        Front {
+            next: self.next + 1,
+            to,
+            ..self
+        }
+    }
+
+    // Behind a jump or an exit: the symbol that it assigns is the newest symbol of control.
+    fn moved(self, to: usize) -> Front
+        requires { self.next < 65535 }
+        ensures { result ≡ record { control = self.next; next = self.next + 1; to = to } }
+    {
+        Front {
+            control: self.next,
+            next: self.next + 1,
+            to,
+        }
+    }
+}
+
+// Copy r of a table's n instructions, of the copies 0 to `bound`.
+#[derive(Clone, Copy)]
+struct Round {
+    pub n: usize,
+    pub bound: usize,
+    pub r: usize,
+    ghost few: { n ≤ 1024 },
+    ghost inside: { r ≤ bound },
+    ghost small: { bound ≤ 255 },
+}
+
+impl Round {
+    // The place of its instruction i, or of its exit behind the last one.
+    fn place(self, i: usize) -> usize
+        requires { i ≤ self.n }
+        ensures { (result ≡ self.r * (self.n + 1) + i) × (result ≤ 263424) }
+    {
+        self.r * (self.n + 1) + i
+    }
+
+    // The same place of the next copy.
+    fn next_place(self, i: usize) -> usize
+        requires { (i ≤ self.n) × (self.r < self.bound) }
+        ensures { (result ≡ (self.r + 1) * (self.n + 1) + i) × (result ≤ 263424) }
+    {
+        (self.r + 1) * (self.n + 1) + i
+    }
+
+    // The place behind all copies.
+    fn end(self) -> usize
+        ensures { (result ≡ (self.bound + 1) * (self.n + 1)) × (result ≤ 263424) }
+    {
+        (self.bound + 1) * (self.n + 1)
+    }
+}
+
+// The jump of instruction i, whose record stands at a place of the table.
 fn write_jump(
     table: &[u8],
     at: usize,
-    n: usize,
-    bound: usize,
-    r: usize,
+    copy: Round,
     i: usize,
     names: &[u16],
     f: Front,
     out: &mut [u8],
 ) -> Front
-    requires { (at < 65536) × (n ≤ 1024) × (i < n) × (r ≤ bound) × (bound ≤ 255) × (f.next < 65535)
-        × (is_good (record_of (instr (length names.now) n) (drop at table.now)) ≡ true)
+    requires { (at < 65536) × (i < copy.n) × (f.next < 65535)
+        × (is_good (record_of (instr (length names.now) copy.n) (drop at table.now)) ≡ true)
         × (f.to + length (records_bytes stmt_bytes
         (statements Bound (newest_of names.now f.control f.next)
-        (place_of n bound r i (record_of (instr (length names.now) n) (drop at table.now)) ∷ []))) ≤ length out.old)
+        (place_of copy.n copy.bound copy.r i (record_of (instr (length names.now) copy.n) (drop at table.now)) ∷ []))) ≤ length out.old)
         × (get_or table.now (at + 2) 0 ≡ 4) }
     ensures { Written (newest_of names.now f.control f.next)
-        (place_of n bound r i (record_of (instr (length names.now) n) (drop at table.now)) ∷ []) out.old
+        (place_of copy.n copy.bound copy.r i (record_of (instr (length names.now) copy.n) (drop at table.now)) ∷ []) out.old
         f.to out.new names.now result }
 {
-    let e = read::expr_at(table, at);
+    let here = Guarded {
+        expr: read::expr_at(table, at),
+        names,
+        control: f.control,
+        place: copy.place(i),
+    };
     let t = number::two_at(table, at + 3);
-    let j = r * (n + 1) + i;
-    let w = f.control;
-    let new = f.next;
     if i < t {
-        let goal = r * (n + 1) + t;
-        let to = record::put_jump(e, names, w, j, new, goal, out, f.to);
-        return Front {
-            control: new,
-            next: new + 1,
-            to: to,
-        };
+        let goal = copy.place(t);
+        let to = here.put_jump(f.next, goal, out, f.to);
+        return f.moved(to);
     }
-    if r < bound {
-        let goal = (r + 1) * (n + 1) + t;
-        let to = record::put_jump(e, names, w, j, new, goal, out, f.to);
-        return Front {
-            control: new,
-            next: new + 1,
-            to: to,
-        };
+    if copy.r < copy.bound {
+        let goal = copy.next_place(t);
+        let to = here.put_jump(f.next, goal, out, f.to);
+        return f.moved(to);
     }
-    let to = record::put_bound(e, names, w, j, out, f.to);
-    Front {
-        control: w,
-        next: new,
-        to: to,
-    }
+    let to = here.put_bound(out, f.to);
+    f.tested(to)
 }
 
-// The instruction i in copy r, whose record stands at a place of the table.
+// Instruction i, whose record stands at a place of the table.
 fn write_place(
     table: &[u8],
     at: usize,
-    n: usize,
-    bound: usize,
-    r: usize,
+    copy: Round,
     i: usize,
     names: &mut [u16],
     f: Front,
     out: &mut [u8],
 ) -> Front
-    requires { (at < 65536) × (n ≤ 1024) × (i < n) × (r ≤ bound) × (bound ≤ 255) × (f.next < 65535)
-        × (is_good (record_of (instr (length names.old) n) (drop at table.now)) ≡ true)
+    requires { (at < 65536) × (i < copy.n) × (f.next < 65535)
+        × (is_good (record_of (instr (length names.old) copy.n) (drop at table.now)) ≡ true)
         × (f.to + length (records_bytes stmt_bytes
         (statements Bound (newest_of names.old f.control f.next)
-        (place_of n bound r i (record_of (instr (length names.old) n) (drop at table.now)) ∷ []))) ≤ length out.old) }
+        (place_of copy.n copy.bound copy.r i (record_of (instr (length names.old) copy.n) (drop at table.now)) ∷ []))) ≤ length out.old) }
     ensures { Written (newest_of names.old f.control f.next)
-        (place_of n bound r i (record_of (instr (length names.old) n) (drop at table.now)) ∷ []) out.old
+        (place_of copy.n copy.bound copy.r i (record_of (instr (length names.old) copy.n) (drop at table.now)) ∷ []) out.old
         f.to out.new names.new result }
 {
     let kind = table[at + 2];
     if kind == 4 {
-        return write_jump(table, at, n, bound, r, i, &*names, f, out);
+        return write_jump(table, at, copy, i, &*names, f, out);
     }
-    let e = read::expr_at(table, at);
-    let j = r * (n + 1) + i;
-    let w = f.control;
-    let new = f.next;
+    let here = Guarded {
+        expr: read::expr_at(table, at),
+        names: &*names,
+        control: f.control,
+        place: copy.place(i),
+    };
     if kind == 1 {
         let symbol = number::byte_at(table, at + 3);
-        let old = names[symbol] as usize;
-        let to = record::put_assign(e, &*names, w, j, new, old, out, f.to);
-        names[symbol] = new as u16;
-        return Front {
-            control: w,
-            next: new + 1,
-            to: to,
-        };
+        let old = here.names[symbol] as usize;
+        let to = here.put_assign(f.next, old, out, f.to);
+        names[symbol] = f.next as u16;
+        return f.assigned(to);
     }
-    let to = record::put_test(e, &*names, w, j, kind, out, f.to);
-    Front {
-        control: w,
-        next: new,
-        to: to,
-    }
+    let to = here.put_test(kind, out, f.to);
+    f.tested(to)
 }
 
 // Copy r, and its exit.
@@ -138,34 +188,23 @@ fn write_copy(
         × Ready table.now offsets.now (length offsets.now)
         × (header_inputs table.now ≤ length names.old)
         × (f.to + length (records_bytes stmt_bytes
-        (statements Bound (newest_of names.old f.control f.next) (copy_from (length offsets.now) bound r 0 (listed (read_table table.now)))))
+        (statements Bound (newest_of names.old f.control f.next)
+        (copy_from (length offsets.now) bound r 0 (listed (read_table table.now)))))
         ≤ length out.old) }
     ensures { Written (newest_of names.old f.control f.next)
         (copy_from (length offsets.now) bound r 0 (listed (read_table table.now))) out.old f.to out.new names.new result }
 {
-    let n = offsets.len();
+    let copy = Round {
+        n: offsets.len(),
+        bound,
+        r,
+    };
     let mut g = f;
     for (i, &at) in offsets.iter().enumerate() {
-        g = write_place(
-            table,
-            at as usize,
-            n,
-            bound,
-            r,
-            i,
-            &mut *names,
-            g,
-            &mut *out,
-        );
+        g = write_place(table, at as usize, copy, i, &mut *names, g, &mut *out);
     }
-    let w = g.control;
-    let new = g.next;
-    let to = record::put_exit(w, r * (n + 1) + n, new, (bound + 1) * (n + 1), out, g.to);
-    Front {
-        control: new,
-        next: new + 1,
-        to: to,
-    }
+    let to = record::put_exit(g.control, copy.place(copy.n), g.next, copy.end(), out, g.to);
+    g.moved(to)
 }
 
 // All copies; the next place of the buffer.

@@ -8,7 +8,7 @@ ghost use Rattle.expr.specs.declared.token.Token.TheVariants.{Const, Symbol, Un,
 ghost use Rattle.expr.specs.Token.{expr_bytes};
 ghost use Rattle.expr.specs.Expr.{below, parse};
 ghost use Rattle.expr.specs.Eval.{rename};
-ghost use Rattle.expr.specs.Shown.{is_whole, tokens_of};
+ghost use Rattle.expr.specs.Shown.{is_whole};
 ghost use Rattle.file.specs.File.{record_bytes};
 ghost use Rattle.file.specs.Shown.{kind_of};
 ghost use Rattle.file.specs.Outcome.{Bound};
@@ -16,9 +16,11 @@ ghost use Rattle.trace.specs.Trace.{Assign, Test, stmt_bytes};
 ghost use Rattle.write.specs.Splice.{splice, Wrote};
 ghost use Rattle.unwind.specs.Unwind.{guarded, opening};
 ghost use Rattle.unwind.specs.Size.{expr_size};
-ghost use Rattle.unwind.specs.Shown.{current_of};
+ghost use Rattle.unwind.specs.Shown.{current_of, tokens_in, renamed};
 
 use super::tokens;
+use expr::token;
+use expr::word::{Binary, Unary};
 
 // The kind and the place, after two bytes for the record's length.
 fn open_test(kind: u8, j: usize, out: &mut [u8], at: usize) -> usize
@@ -54,7 +56,7 @@ fn put_guard(w: usize, j: usize, out: &mut [u8], at: usize) -> usize
 {
     let a = write::put_symbol(w, out, at);
     let b = write::put_constant(j as u32, out, a);
-    write::put_byte(0x2D, out, b)
+    write::put_byte(Binary::Ule.code(), out, b)
 }
 
 // A symbol, ite.
@@ -63,7 +65,7 @@ fn put_old(symbol: usize, out: &mut [u8], at: usize) -> usize
     ensures { Wrote out.old at (expr_bytes Trace (Symbol symbol ∷ Ite ∷ [])) out.new result }
 {
     let a = write::put_symbol(symbol, out, at);
-    write::put_byte(0x30, out, a)
+    write::put_byte(token::ITE, out, a)
 }
 
 // Constant 1, ite.
@@ -72,7 +74,7 @@ fn put_holds(out: &mut [u8], at: usize) -> usize
     ensures { Wrote out.old at (expr_bytes Trace (Const 1 ∷ Ite ∷ [])) out.new result }
 {
     let a = write::put_constant(1, out, at);
-    write::put_byte(0x30, out, a)
+    write::put_byte(token::ITE, out, a)
 }
 
 // The opening: place 65535, the first W is 0.
@@ -85,102 +87,81 @@ pub fn put_opening(inputs: usize, out: &mut [u8], at: usize) -> usize
     close(out, at, b)
 }
 
-// An Assign of the symbol `new` at place j, in the place of the symbol `old`.
-pub fn put_assign(
-    e: &[u8],
-    names: &[u16],
-    w: usize,
-    j: usize,
-    new: usize,
-    old: usize,
-    out: &mut [u8],
-    at: usize,
-) -> usize
-    requires { (j < 4294967296) × (is_whole (parse Table (below (length names.now)) e.now) ≡ true)
-        × (at + (20 + expr_size (tokens_of (parse Table (below (length names.now)) e.now))) ≤ length out.old) }
-    ensures { Wrote out.old at
-        (record_bytes stmt_bytes (Assign j new
-        (guarded w j (rename (current_of names.now)
-        (tokens_of (parse Table (below (length names.now)) e.now))) (Symbol old)))) out.new result }
-{
-    let a = open_assign(j, new, out, at);
-    let b = put_guard(w, j, out, a);
-    let c = tokens::put_tokens(e, names, out, b);
-    let d = put_old(old, out, c);
-    close(out, at, d)
+// A table's expression that counts only where control has come to a place: where the symbol `control` is at most `place`. Its symbols are
+// written by their current names.
+#[derive(Clone, Copy)]
+pub struct Guarded<'a> {
+    pub expr: &'a [u8],
+    pub names: &'a [u16],
+    pub control: usize,
+    pub place: usize,
+    ghost whole: { is_whole (parse Table (below (length names.now)) expr.now) ≡ true },
+    ghost small: { place < 4294967296 },
 }
 
-// An Assume or an Assert at place j.
-pub fn put_test(
-    e: &[u8],
-    names: &[u16],
-    w: usize,
-    j: usize,
-    kind: u8,
-    out: &mut [u8],
-    at: usize,
-) -> usize
-    requires { (j < 4294967296) × (is_whole (parse Table (below (length names.now)) e.now) ≡ true)
-        × (at + (20 + expr_size (tokens_of (parse Table (below (length names.now)) e.now))) ≤ length out.old) × (2 ≤ kind)
-        × (kind ≤ 3) }
-    ensures { Wrote out.old at
-        (record_bytes stmt_bytes (Test (kind_of kind) j
-        (guarded w j (rename (current_of names.now)
-        (tokens_of (parse Table (below (length names.now)) e.now))) (Const 1)))) out.new result }
-{
-    let a = open_test(kind, j, out, at);
-    let b = put_guard(w, j, out, a);
-    let c = tokens::put_tokens(e, names, out, b);
-    let d = put_holds(out, c);
-    close(out, at, d)
-}
+impl<'a> Guarded<'a> {
+    // An Assign of the symbol `new`, in the place of the symbol `old`.
+    pub fn put_assign(self, new: usize, old: usize, out: &mut [u8], at: usize) -> usize
+        requires { at + (20 + expr_size (tokens_in self.names.now self.expr.now)) ≤ length out.old }
+        ensures { Wrote out.old at
+            (record_bytes stmt_bytes (Assign self.entry.place new
+            (guarded self.entry.control self.entry.place (renamed self.entry.names.now self.entry.expr.now) (Symbol old)))) out.new result }
+    {
+        let a = open_assign(self.place, new, out, at);
+        let b = put_guard(self.control, self.place, out, a);
+        let c = tokens::put_tokens(self.expr, self.names, out, b);
+        let d = put_old(old, out, c);
+        close(out, at, d)
+    }
 
-// A jump from place j to the place `goal`: an Assign of the symbol `new`, the next W.
-pub fn put_jump(
-    e: &[u8],
-    names: &[u16],
-    w: usize,
-    j: usize,
-    new: usize,
-    goal: usize,
-    out: &mut [u8],
-    at: usize,
-) -> usize
-    requires { (j < 4294967296) × (is_whole (parse Table (below (length names.now)) e.now) ≡ true)
-        × (at + (29 + expr_size (tokens_of (parse Table (below (length names.now)) e.now))) ≤ length out.old)
-        × (goal < 4294967296) }
-    ensures { Wrote out.old at
-        (record_bytes stmt_bytes (Assign j new
-        (guarded w j (rename (current_of names.now)
-        (tokens_of (parse Table (below (length names.now)) e.now)) ++ Const goal ∷ Symbol w ∷ Ite ∷ [])
-        (Symbol w))))
-        out.new result }
-{
-    let a = open_assign(j, new, out, at);
-    let b = put_guard(w, j, out, a);
-    let c = tokens::put_tokens(e, names, out, b);
-    let d = write::put_constant(goal as u32, out, c);
-    let f = put_old(w, out, d);
-    let g = put_old(w, out, f);
-    close(out, at, g)
-}
+    // An Assume or an Assert.
+    pub fn put_test(self, kind: u8, out: &mut [u8], at: usize) -> usize
+        requires { (at + (20 + expr_size (tokens_in self.names.now self.expr.now)) ≤ length out.old) × (2 ≤ kind) × (kind ≤ 3) }
+        ensures { Wrote out.old at
+            (record_bytes stmt_bytes (Test (kind_of kind) self.entry.place
+            (guarded self.entry.control self.entry.place (renamed self.entry.names.now self.entry.expr.now) (Const 1)))) out.new result }
+    {
+        let a = open_test(kind, self.place, out, at);
+        let b = put_guard(self.control, self.place, out, a);
+        let c = tokens::put_tokens(self.expr, self.names, out, b);
+        let d = put_holds(out, c);
+        close(out, at, d)
+    }
 
-// A back jump of the last copy, at place j: a test that its condition is zero, of the bound's own kind.
-pub fn put_bound(e: &[u8], names: &[u16], w: usize, j: usize, out: &mut [u8], at: usize) -> usize
-    requires { (j < 4294967296) × (is_whole (parse Table (below (length names.now)) e.now) ≡ true)
-        × (at + (21 + expr_size (tokens_of (parse Table (below (length names.now)) e.now))) ≤ length out.old) }
-    ensures { Wrote out.old at
-        (record_bytes stmt_bytes (Test Bound j
-        (guarded w j (rename (current_of names.now)
-        (tokens_of (parse Table (below (length names.now)) e.now) ++ Un Zero ∷ [])) (Const 1)))) out.new
-        result }
-{
-    let a = open_test(4, j, out, at);
-    let b = put_guard(w, j, out, a);
-    let c = tokens::put_tokens(e, names, out, b);
-    let d = write::put_byte(0x12, out, c);
-    let f = put_holds(out, d);
-    close(out, at, f)
+    // A jump to the place `goal`: an Assign of the symbol `new`, the next W.
+    pub fn put_jump(self, new: usize, goal: usize, out: &mut [u8], at: usize) -> usize
+        requires { (at + (29 + expr_size (tokens_in self.names.now self.expr.now)) ≤ length out.old) × (goal < 4294967296) }
+        ensures { Wrote out.old at
+            (record_bytes stmt_bytes (Assign self.entry.place new
+            (guarded self.entry.control self.entry.place
+            (renamed self.entry.names.now self.entry.expr.now ++ Const goal ∷ Symbol self.entry.control ∷ Ite ∷ [])
+            (Symbol self.entry.control)))) out.new result }
+    {
+        let a = open_assign(self.place, new, out, at);
+        let b = put_guard(self.control, self.place, out, a);
+        let c = tokens::put_tokens(self.expr, self.names, out, b);
+        let d = write::put_constant(goal as u32, out, c);
+        let f = put_old(self.control, out, d);
+        let g = put_old(self.control, out, f);
+        close(out, at, g)
+    }
+
+    // A back jump of the last copy: a test that its condition is zero, of the bound's own kind.
+    pub fn put_bound(self, out: &mut [u8], at: usize) -> usize
+        requires { at + (21 + expr_size (tokens_in self.names.now self.expr.now)) ≤ length out.old }
+        ensures { Wrote out.old at
+            (record_bytes stmt_bytes (Test Bound self.entry.place
+            (guarded self.entry.control self.entry.place
+            (rename (current_of self.entry.names.now) (tokens_in self.entry.names.now self.entry.expr.now ++ Un Zero ∷ []))
+            (Const 1)))) out.new result }
+    {
+        let a = open_test(4, self.place, out, at);
+        let b = put_guard(self.control, self.place, out, a);
+        let c = tokens::put_tokens(self.expr, self.names, out, b);
+        let d = write::put_byte(Unary::Zero.code(), out, c);
+        let f = put_holds(out, d);
+        close(out, at, f)
+    }
 }
 
 // An exit at place j to the place `goal`: an Assign of the symbol `new`, the next W.

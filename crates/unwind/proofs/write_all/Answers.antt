@@ -90,6 +90,7 @@ returns c =
     let place = (goal.at.returns c).After-put_header-a in
     let s = start place in
     all-written (S place) (listed (read_table s.args.table.now)) s.args.bound c.first_names-names.result c.first_names-names.ensures.1
-    (length s.args.offsets.now) s.args.total s.args.count (counted _ _ _ (bytes (goal.at.returns c).After-shared_slice_known-1) s.requires.0) s.requires.4
+    (length s.args.offsets.now) s.args.total s.args.count
+    (counted _ _ _ (bytes (goal.at.returns c).After-shared_slice_known-1) s.requires.0) s.requires.4
     s.requires.2 s.requires.5
     c.put_header-a.ensures.0 c.put_opening-b.ensures c.write_copies.ensures c.inputs_of-inputs.ensures

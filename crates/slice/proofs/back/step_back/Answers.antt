@@ -20,6 +20,6 @@ two_at-requires c =
 
 pub returns-then-keeps : goal.returns-then-keeps
 returns-then-keeps c =
-    stepped_kept (here (goal.at.returns-then-keeps c).Start) c.args.k c.args.behind c.args.kept.now (in_set c.args.needed.now) _ c.keeps.ensures
-    c.if-keeps.true
+    stepped_kept (here (goal.at.returns-then-keeps c).Start) c.args.k c.args.behind c.args.kept.now (in_set c.args.needed.now) _
+    c.keeps.ensures c.if-keeps.true
     _ c.mark_record.ensures _ (search (tests, rules)) _ c.two_at.ensures.0
