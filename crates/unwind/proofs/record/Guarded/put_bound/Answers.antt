@@ -1,15 +1,16 @@
 use borrow.Author.Rules.{rules}
-use mathlib.Core.Path.{◌≡◌}
+use Prim.Native.Nat.{ℕ}
+use mathlib.Core.Path.{◌≡◌, ap}
 use lib.ListN.{length}
 use Rattle.expr.specs.declared.File.TheVariants.{Trace}
-use mathlib.Core.List.{[], ◌∷◌, ◌++◌}
+use mathlib.Core.List.{List, [], ◌∷◌, ◌++◌}
 use Rattle.expr.specs.declared.word.Unary.TheVariants.{Zero}
 use Rattle.expr.specs.declared.token.Token.TheVariants.{Const, Un}
 use Rattle.expr.specs.Token.{expr_bytes}
 use Rattle.expr.specs.Eval.{rename}
 use Rattle.file.specs.Outcome.{Bound}
 use Rattle.trace.specs.Trace.{Test}
-use Rattle.write.specs.SpliceLaws.{◌then◌}
+use Rattle.write.specs.SpliceLaws.{◌then◌, wrote_as}
 use Rattle.unwind.specs.Unwind.{guarded}
 use Rattle.unwind.specs.Size.{expr_size}
 use Rattle.unwind.proofs.SizeLaws.{size-rename}
@@ -40,5 +41,6 @@ returns c =
     let g = a.self in
     closes (Test Bound g.place (guarded g.control g.place
     (rename (current_of g.names.now) (tokens_in g.names.now g.expr.now ++ Un Zero ∷ [])) (Const 1)))
-    (c.open_test-a.ensures then c.put_guard-b.ensures then c.put_tokens-c.ensures then c.put_byte-d.ensures then c.put_holds-f.ensures)
+    (c.open_test-a.ensures then c.put_guard-b.ensures then c.put_tokens-c.ensures
+    then wrote_as (ap {B = List ℕ} (λ b. b ∷ []) c.code.ensures) c.put_byte-d.ensures then c.put_holds-f.ensures)
     (bound-bytes g.control g.place (tokens_in g.names.now g.expr.now) (current_of g.names.now)) c.close.ensures
