@@ -45,22 +45,22 @@ fn instr_sizes(table: &[u8], at: usize, n: usize, i: usize) -> Sizes
     }
 }
 
+// The records of a copy; the sums begin with the 25 bytes of its exit.
 fn copy_sizes(table: &[u8], offsets: &[u16]) -> Sizes
     requires { Ready table.now offsets.now (length offsets.now) }
     ensures { (result.early ≡ copy_size false 0 (listed (read_table table.now)))
         × (result.last ≡ copy_size true 0 (listed (read_table table.now))) × (result.early ≤ 134348825) × (result.last ≤ 134348825) }
 {
-    let mut early: usize = 25;
-    let mut last: usize = 25;
+    let mut sum = Sizes {
+        early: 25,
+        last: 25,
+    };
     for (i, &at) in offsets.iter().enumerate() {
         let s = instr_sizes(table, at as usize, offsets.len(), i);
-        early += s.early;
-        last += s.last;
+        sum.early += s.early;
+        sum.last += s.last;
     }
-    Sizes {
-        early: early,
-        last: last,
-    }
+    sum
 }
 
 // The bytes of the whole trace.

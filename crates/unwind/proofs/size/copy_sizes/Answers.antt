@@ -20,25 +20,25 @@ instr_sizes-s-requires c =
           c.requires _ c.loop-i-test.true,
     )
 
-pub overflow_add-early : goal.overflow_add-early
-overflow_add-early c =
+pub overflow_add-sum : goal.overflow_add-sum
+overflow_add-sum c =
     omega (
       arith,
       c.loop-i.invariant.0.little,
       c.instr_sizes-s.ensures.2,
       c.loop-i-test.true,
-      few _ _ _ (bytes (goal.at.overflow_add-early c).After-shared_slice_known-1)
+      few _ _ _ (bytes (goal.at.overflow_add-sum c).After-shared_slice_known-1)
           c.requires,
     )
 
-pub overflow_add-last : goal.overflow_add-last
-overflow_add-last c =
+pub overflow_add-sum-in-loop-i : goal.overflow_add-sum-in-loop-i
+overflow_add-sum-in-loop-i c =
     omega (
       arith,
       c.loop-i.invariant.1.little,
       c.instr_sizes-s.ensures.3,
       c.loop-i-test.true,
-      few _ _ _ (bytes (goal.at.overflow_add-last c).After-shared_slice_known-1)
+      few _ _ _ (bytes (goal.at.overflow_add-sum-in-loop-i c).After-shared_slice_known-1)
           c.requires,
     )
 

@@ -39,7 +39,8 @@ pub returns : goal.returns
 returns c =
     let a = c.args in
     let g = a.self in
-    closes (Assign g.place a.new (guarded g.control g.place ((renamed g.names.now g.expr.now) ++ Const a.goal ∷ Symbol g.control ∷ Ite
-    ∷ []) (Symbol g.control))) (c.open_assign-a.ensures then c.put_guard-b.ensures then c.put_tokens-c.ensures then
-    c.put_constant-d.ensures then c.put_old-f.ensures then c.put_old-g.ensures) (jump-bytes g.control g.place (renamed g.names.now g.expr.now) a.new a.goal)
-    c.close.ensures
+    let e = renamed g.names.now g.expr.now in
+    closes (Assign g.place a.new (guarded g.control g.place (e ++ Const a.goal ∷ Symbol g.control ∷ Ite ∷ []) (Symbol g.control)))
+    (c.open_assign-a.ensures then c.put_guard-b.ensures then c.put_tokens-c.ensures then c.put_constant-d.ensures then
+    c.put_old-f.ensures then c.put_old-g.ensures)
+    (jump-bytes g.control g.place e a.new a.goal) c.close.ensures
