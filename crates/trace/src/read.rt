@@ -38,6 +38,7 @@ impl Seen {
     }
 
     // Refuses the expression from a place of a record's body on at the first token that breaks its rules.
+    #[inline(always)]
     fn check_expr(&self, body: &[u8], from: usize) -> Result<(), Refusal>
         requires { from ≤ length body.now }
         ensures { fault_in result ≡ expr_fault (length body.now) (parse Trace (seen_in self.now).readable (drop from body.now)) }
