@@ -7,7 +7,7 @@ use Rattle.expr.specs.Lists.{All, all-at}
 use Rattle.expr.specs.Number.{Byte}
 use Rattle.slice.proofs.Records.{record-length}
 use Rattle.slice.proofs.Statements.{At, is-loaded, counted, stands_at}
-use Rattle.slice.proofs.Walk.{records-small, walking_start, few-behind, small-behind, walk-on, walked, one-less, last_is, left-on}
+use Rattle.slice.proofs.Walk.{records-small, walking_start, few-behind, small-behind, walk-on, one-less, last_is, left-on}
 use Rattle.slice.proofs.back.walk_back.Goals as goal
 use Rattle.slice.proofs.back.walk_back.Goals.{In-Some}
 
@@ -58,6 +58,3 @@ loop-k-preserved c =
           (record-length c.args.trace.now c.in-Some.field-0-1.now (bytes place) x.statement x.is-held)
           x.is-held (k-is place) c.step_back-behind.ensures c.step_back-behind.auto.kept,
     )
-
-pub returns : goal.returns
-returns c = walked c.loop-k.invariant.2 (omega (arith, c.in-None.ensures.steps.1.0))
