@@ -2,23 +2,22 @@
 use Prim.Native.Nat.{ℕ, zero, suc, ◌+◌, ◌-◌, ◌*◌, ◌^◌, ◌≤◌, ◌<◌}
 use native.Mathlib.Omega.{arith}
 use mathlib.Core.Path.{◌≡◌, refl, sym, ap, ap₂, ◌∙◌, subst}
-use mathlib.Core.Bool.{Bool, true, false, cond}
+use mathlib.Core.Bool.{true}
 use mathlib.Core.List.{List, [], ◌∷◌, ◌++◌}
-use lib.ListN.{take, drop, get_or}
-use lib.Dec.{eqb}
-use borrow.Author.Tests.{eq-eqb, ne_eqb}
+use lib.ListN.{take, drop}
 use Rattle.expr.specs.declared.File.TheVariants.{Trace}
 use Rattle.expr.specs.Lists.{All}
 use Rattle.expr.specs.Number.{Byte, number_of}
 use Rattle.expr.specs.declared.token.Token.{Token}
 use Rattle.expr.specs.Expr.{below, parse}
 use Rattle.expr.specs.Shown.{tokens_of}
-use Rattle.file.specs.Outcome.{Kind, Assume, Bound}
+use Rattle.file.specs.Outcome.{Kind, Assume, Assert, Bound}
 use Rattle.file.specs.File.{input_room, header_count, Good}
 use Rattle.file.specs.Shown.{is_good, is_accepted, listed, offsets_in}
 use Rattle.trace.specs.Trace.{Assign, Test, read_trace}
-use Rattle.trace.specs.Shown.{test_kind, symbol_room, loose, held, expr_part, expr_of}
-use Rattle.trace.proofs.Held.{Held}
+use Rattle.trace.specs.Shown.{symbol_room, loose, held, expr_part, action_at, expr_of}
+use Rattle.trace.specs.declared.read.Action.TheVariants as A
+use Rattle.trace.proofs.Held.{Held, acts-assign, acts-test}
 use Rattle.trace.proofs.Passes.{tokens_are}
 use Rattle.trace.proofs.Standing.{Walking, walking-start, Turn, walking-turn, walking-end}
 use Rattle.write.specs.Splice.{Wrote}
@@ -31,15 +30,13 @@ use Rattle.script.specs.Shown.{opening, piece, piece_in, pieces}
 
 -- ---- one record
 
-pub opening-assert : (kind : ℕ) → kind ≡ 3 → ascii "(or (= #x00000000 " ≡ ascii (opening (test_kind kind))
-opening-assert kind e = rw (eq-eqb kind 3 e)
+pub opening-assert : (k : Kind) → k ≡ Assert → ascii "(or (= #x00000000 " ≡ ascii (opening k)
+opening-assert k e = sym (ap (λ k. ascii (opening k)) e)
 
-pub opening-assume : (kind : ℕ) → (kind ≡ 3 → ⊥) → ascii "(and (distinct #x00000000 " ≡ ascii (opening (test_kind kind))
-opening-assume kind e = rw (ne_eqb kind 3 e) (go (eqb kind 4))
-  where
-    go : (b : Bool) → ascii "(and (distinct #x00000000 " ≡ ascii (opening (cond b Bound Assume))
-    go true = refl
-    go false = refl
+pub opening-assume : (k : Kind) → (k ≡ Assert → ⊥) → ascii "(and (distinct #x00000000 " ≡ ascii (opening k)
+opening-assume Assume e = refl
+opening-assume Assert e = absurd (e refl)
+opening-assume Bound e = refl
 
 -- a statement's place adds nothing
 assign_anywhere : (part : Part) (p q x : ℕ) (e : List Token) → piece part (Assign p x e) ≡ piece part (Assign q x e)
@@ -53,20 +50,19 @@ test_anywhere Equations k p q e = refl
 test_anywhere Tests k p q e = refl
 
 module _ {s : List ℕ} {at : ℕ} (h : Held symbol_room loose s at) {e : List ℕ} (q : e ≡ expr_part s at) (part : Part) where
-  pub assign-piece : get_or s (at + 2) 0 ≡ 1 → {x : ℕ} → x ≡ number_of 2 (drop (at + 5) s)
-      → piece part (Assign 0 x (tokens_of (parse Trace (below symbol_room) e))) ≡ piece_in part (held (drop at s))
-  assign-piece k {x} p =
-      ap₂ (λ x t. piece part (Assign 0 x t)) p (tokens_are h q)
-      ∙ assign_anywhere part 0 (number_of 2 (drop (at + 3) s)) (number_of 2 (drop (at + 5) s)) (expr_of h.statement)
-      ∙ sym (ap (piece_in part) (h.is ∙ ap Good (h.assigns k).0))
+  pub assign-piece : {y : ℕ} → action_at s at ≡ A.Assign y
+      → piece part (Assign 0 y (tokens_of (parse Trace (below symbol_room) e))) ≡ piece_in part (held (drop at s))
+  assign-piece {y} k =
+      ap (λ t. piece part (Assign 0 y t)) (tokens_are h q)
+      ∙ assign_anywhere part 0 (number_of 2 (drop (at + 3) s)) y (expr_of h.statement)
+      ∙ sym (ap (piece_in part) (h.is ∙ ap Good (acts-assign h y k).0))
 
-  pub test-piece : (get_or s (at + 2) 0 ≡ 1 → ⊥)
-      → piece part (Test (test_kind (get_or s (at + 2) 0)) 0 (tokens_of (parse Trace (below symbol_room) e)))
-      ≡ piece_in part (held (drop at s))
-  test-piece k =
-      ap (λ t. piece part (Test (test_kind (get_or s (at + 2) 0)) 0 t)) (tokens_are h q)
-      ∙ test_anywhere part (test_kind (get_or s (at + 2) 0)) 0 (number_of 2 (drop (at + 3) s)) (expr_of h.statement)
-      ∙ sym (ap (piece_in part) (h.is ∙ ap Good (h.tests k).0))
+  pub test-piece : {k : Kind} → action_at s at ≡ A.Test k
+      → piece part (Test k 0 (tokens_of (parse Trace (below symbol_room) e))) ≡ piece_in part (held (drop at s))
+  test-piece {k} z =
+      ap (λ t. piece part (Test k 0 t)) (tokens_are h q)
+      ∙ test_anywhere part k 0 (number_of 2 (drop (at + 3) s)) (expr_of h.statement)
+      ∙ sym (ap (piece_in part) (h.is ∙ ap Good (acts-test h k z)))
 
 -- ---- the inputs
 

@@ -8,7 +8,7 @@ ghost use Rattle.file.specs.File.{input_room, header_count};
 ghost use Rattle.file.specs.Shown.{is_good, is_accepted, listed};
 ghost use Rattle.trace.specs.Trace.{Assign, Test, read_trace};
 ghost use Rattle.trace.specs.Asserts.{asserted};
-ghost use Rattle.trace.specs.Shown.{test_kind, symbol_room, held};
+ghost use Rattle.trace.specs.Shown.{symbol_room, held};
 ghost use Rattle.write.specs.Splice.{Wrote};
 ghost use Rattle.write.specs.Ascii.{ascii};
 ghost use Rattle.script.specs.Script.{numbers_from, expr_term};
@@ -18,8 +18,9 @@ ghost use Rattle.script.specs.Shown.{opening, test_line, piece, piece_in, pieces
 
 use super::text::SYMBOL;
 use super::{term, text};
-use expr::number;
+use file::Kind;
 use trace::read;
+use trace::read::Action;
 use trace::records::Records;
 
 fn put_declaration(s: usize, out: &mut [u8], at: usize) -> usize
@@ -56,19 +57,19 @@ fn put_equation(s: usize, e: &[u8], out: &mut [u8], at: usize) -> usize
 }
 
 // What stands in front of a test's expression.
-fn put_opening(kind: u8, out: &mut [u8], at: usize) -> usize
+fn put_opening(kind: Kind, out: &mut [u8], at: usize) -> usize
     requires { at + 26 < 2 ^ 64 }
-    ensures { Wrote out.old at (ascii (opening (test_kind kind))) out.new result × (result ≤ at + 26) }
+    ensures { Wrote out.old at (ascii (opening kind)) out.new result × (result ≤ at + 26) }
 {
     match kind {
-        3 => write::fit_part(b"(or (= #x00000000 ", out, at),
+        Kind::Assert => write::fit_part(b"(or (= #x00000000 ", out, at),
         _ => write::fit_part(b"(and (distinct #x00000000 ", out, at),
     }
 }
 
-fn put_tested(kind: u8, e: &[u8], out: &mut [u8], at: usize) -> usize
+fn put_tested(kind: Kind, e: &[u8], out: &mut [u8], at: usize) -> usize
     requires { (is_whole (parse Trace (below symbol_room) e.now) ≡ true) × (at + 130 * length e.now + 200 < 2 ^ 64) }
-    ensures { Wrote out.old at (test_line (test_kind kind) (tokens_of (parse Trace (below symbol_room) e.now)))
+    ensures { Wrote out.old at (test_line kind (tokens_of (parse Trace (below symbol_room) e.now)))
         out.new result × (result ≤ at + 130 * length e.now + 40) }
 {
     let a = put_opening(kind, out, at);
@@ -87,10 +88,10 @@ pub trait Step: Copy {
             out.new result × (result ≤ at + 130 * length e.now + 42) };
 
     // And what a test adds.
-    fn put_test(self, kind: u8, e: &[u8], out: &mut [u8], at: usize) -> usize
+    fn put_test(self, kind: Kind, e: &[u8], out: &mut [u8], at: usize) -> usize
         requires { (is_whole (parse Trace (below symbol_room) e.now) ≡ true) × (at + 130 * length e.now + 200 < 2 ^ 64) }
         ensures { Wrote out.old at
-            (piece part (Test (test_kind kind) 0 (tokens_of (parse Trace (below symbol_room) e.now)))) out.new result
+            (piece part (Test kind 0 (tokens_of (parse Trace (below symbol_room) e.now)))) out.new result
             × (result ≤ at + 130 * length e.now + 42) };
 }
 
@@ -105,7 +106,7 @@ impl Step for Declare {
         put_declaration(s, out, at)
     }
 
-    fn put_test(self, kind: u8, e: &[u8], out: &mut [u8], at: usize) -> usize {
+    fn put_test(self, kind: Kind, e: &[u8], out: &mut [u8], at: usize) -> usize {
         at
     }
 }
@@ -121,7 +122,7 @@ impl Step for Equate {
         put_equation(s, e, out, at)
     }
 
-    fn put_test(self, kind: u8, e: &[u8], out: &mut [u8], at: usize) -> usize {
+    fn put_test(self, kind: Kind, e: &[u8], out: &mut [u8], at: usize) -> usize {
         at
     }
 }
@@ -137,7 +138,7 @@ impl Step for Claim {
         at
     }
 
-    fn put_test(self, kind: u8, e: &[u8], out: &mut [u8], at: usize) -> usize {
+    fn put_test(self, kind: Kind, e: &[u8], out: &mut [u8], at: usize) -> usize {
         put_tested(kind, e, out, at)
     }
 }
@@ -149,13 +150,11 @@ fn put_piece<S: Step>(step: S, trace: &[u8], at: usize, out: &mut [u8], to: usiz
     ensures { Wrote out.old to (piece_in S.part (held (drop at trace.now))) out.new result
         × (result ≤ to + 130 * (2 + number_of 2 (drop at trace.now))) }
 {
-    let e = read::expr_at(trace, at);
-    let kind = trace[at + 2];
-    if kind == 1 {
-        let symbol = number::two_at(trace, at + 5);
-        return step.put_assign(symbol, e, out, to);
+    let stmt = read::stmt_at(trace, at);
+    match stmt.action {
+        Action::Assign(symbol) => step.put_assign(symbol, stmt.expr, out, to),
+        Action::Test(kind) => step.put_test(kind, stmt.expr, out, to),
     }
-    step.put_test(kind, e, out, to)
 }
 
 // What the first n statements add to a part.

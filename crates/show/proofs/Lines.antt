@@ -5,19 +5,21 @@ use native.Mathlib.Omega.{arith}
 use mathlib.Core.Path.{◌≡◌, sym, ap, ap₂, ◌∙◌}
 use mathlib.Core.Bool.{true}
 use mathlib.Core.List.{List, [], ◌∷◌, ◌++◌}
-use lib.ListN.{length, drop, get_or}
+use lib.ListN.{length, drop}
 use lib.Seq.{append_snoc}
 use Rattle.expr.specs.declared.File.TheVariants.{Trace}
 use Rattle.expr.specs.Lists.{All}
 use Rattle.expr.specs.Number.{Byte, number_of}
 use Rattle.expr.specs.Expr.{below, parse}
 use Rattle.expr.specs.Shown.{tokens_of}
+use Rattle.file.specs.Outcome.{Kind}
 use Rattle.file.specs.File.{input_room, header_version, header_size, header_inputs, header_count, Good}
 use Rattle.file.specs.Shown.{is_good, is_accepted, listed, offsets_in}
 use Rattle.file.proofs.FileLaws.{head-long}
 use Rattle.trace.specs.Trace.{read_trace}
-use Rattle.trace.specs.Shown.{test_kind, symbol_room, loose, held, expr_part, expr_of}
-use Rattle.trace.proofs.Held.{Held}
+use Rattle.trace.specs.Shown.{symbol_room, loose, held, expr_part, action_at, expr_of}
+use Rattle.trace.specs.declared.read.Action.TheVariants as A
+use Rattle.trace.proofs.Held.{Held, acts-assign, acts-test}
 use Rattle.trace.proofs.Passes.{tokens_are, known, pass-end}
 use Rattle.trace.proofs.Standing.{Walking, walking-start, Turn, walking-turn, walking-end}
 use Rattle.write.specs.Splice.{Wrote}
@@ -30,25 +32,28 @@ use Rattle.show.specs.Shown.{line_in}
 -- ---- one record
 
 module _ {s : List ℕ} {at : ℕ} (h : Held symbol_room loose s at) {e : List ℕ} (q : e ≡ expr_part s at) where
-  module _ (k : get_or s (at + 2) 0 ≡ 1) where
-    pub assign_line : (p y : ℕ) → p ≡ number_of 2 (drop (at + 3) s) → y ≡ number_of 2 (drop (at + 5) s)
-        → decimal p ++ ascii " assign s" ++ decimal y ++ expr_text (tokens_of (parse Trace (below symbol_room) e)) ++ ascii "\n"
-        ≡ line_in (held (drop at s))
-    assign_line p y a b =
-        ap (λ t. decimal p ++ ascii " assign s" ++ decimal y ++ expr_text t ++ ascii "\n") (tokens_are h q)
-        ∙ ap₂ (λ p y. decimal p ++ ascii " assign s" ++ decimal y ++ expr_text (expr_of h.statement) ++ ascii "\n") a b
-        ∙ sym (ap line_in (h.is ∙ ap Good (h.assigns k).0))
+  abbrev there : List ℕ
+  there = expr_text (tokens_of (parse Trace (below symbol_room) e))
 
-  module _ (k : get_or s (at + 2) 0 ≡ 1 → ⊥) where
-    pub test-line : (p : ℕ) → p ≡ number_of 2 (drop (at + 3) s)
-        → decimal p ++ (ascii " " ++ ascii (kind_name (test_kind (get_or s (at + 2) 0)))) ++ expr_text
-        (tokens_of (parse Trace (below symbol_room) e))
-        ++ ascii "\n" ≡ line_in (held (drop at s))
-    test-line p a =
-        let n = ascii (kind_name (test_kind (get_or s (at + 2) 0))) in
-        ap (λ t. t ++ expr_text (tokens_of (parse Trace (below symbol_room) e)) ++ ascii "\n") (sym (append_snoc (decimal p) 32 n))
-        ∙ ap₂ (λ p t. decimal p ++ ascii " " ++ n ++ expr_text t ++ ascii "\n") a (tokens_are h q)
-        ∙ sym (ap line_in (h.is ∙ ap Good (h.tests k).0))
+  abbrev due : List ℕ
+  due = expr_text (expr_of h.statement)
+
+  same : there ≡ due
+  same = ap expr_text (tokens_are h q)
+
+  pub assign_line : (p y : ℕ) → p ≡ number_of 2 (drop (at + 3) s) → action_at s at ≡ A.Assign y
+      → decimal p ++ ascii " assign s" ++ decimal y ++ there ++ ascii "\n" ≡ line_in (held (drop at s))
+  assign_line p y a k =
+      ap₂ (λ p t. decimal p ++ ascii " assign s" ++ decimal y ++ t ++ ascii "\n") a same
+      ∙ sym (ap line_in (h.is ∙ ap Good (acts-assign h y k).0))
+
+  pub test-line : (p : ℕ) (k : Kind) → p ≡ number_of 2 (drop (at + 3) s) → action_at s at ≡ A.Test k
+      → decimal p ++ (ascii " " ++ ascii (kind_name k)) ++ there ++ ascii "\n" ≡ line_in (held (drop at s))
+  test-line p k a z =
+      let n = ascii (kind_name k) in
+      ap (λ t. t ++ there ++ ascii "\n") (sym (append_snoc (decimal p) 32 n))
+      ∙ ap₂ (λ p t. decimal p ++ ascii " " ++ n ++ t ++ ascii "\n") a same
+      ∙ sym (ap line_in (h.is ∙ ap Good (acts-test h k z)))
 
 -- ---- the loop
 

@@ -10,8 +10,8 @@ ghost use Rattle.show.specs.Text.{first_line, stmt_lines, trace_text};
 ghost use Rattle.show.specs.Shown.{line_in};
 
 use super::word;
-use expr::number;
 use trace::read;
+use trace::read::Action;
 use trace::records::Records;
 
 // The line of the record at a place. No line has more letters than six for each of the record's bytes.
@@ -21,20 +21,21 @@ fn put_line(trace: &[u8], at: usize, out: &mut [u8], to: usize) -> usize
     ensures { Wrote out.old to (line_in (held (drop at trace.now))) out.new result
         × (result ≤ to + 6 * (2 + number_of 2 (drop at trace.now))) }
 {
-    let e = read::expr_at(trace, at);
-    let kind = trace[at + 2];
-    let place = number::two_at(trace, at + 3);
-    let a = write::fit_decimal(place as u32, out, to);
-    if kind == 1 {
-        let symbol = number::two_at(trace, at + 5);
-        let b = write::fit_part(b" assign s", out, a);
-        let c = write::fit_decimal(symbol as u32, out, b);
-        let d = word::put_tokens(e, out, c);
-        return write::fit_part(b"\n", out, d);
+    let stmt = read::stmt_at(trace, at);
+    let a = write::fit_decimal(stmt.place, out, to);
+    match stmt.action {
+        Action::Assign(symbol) => {
+            let b = write::fit_part(b" assign s", out, a);
+            let c = write::fit_decimal(symbol as u32, out, b);
+            let d = word::put_tokens(stmt.expr, out, c);
+            write::fit_part(b"\n", out, d)
+        }
+        Action::Test(kind) => {
+            let b = word::put_kind(kind, out, a);
+            let c = word::put_tokens(stmt.expr, out, b);
+            write::fit_part(b"\n", out, c)
+        }
     }
-    let b = word::put_kind(kind, out, a);
-    let c = word::put_tokens(e, out, b);
-    write::fit_part(b"\n", out, c)
 }
 
 // S and the statement count, from the buffer's first byte.

@@ -4,7 +4,7 @@ ghost use Rattle.expr.specs.declared.File.TheVariants.{Trace};
 ghost use Rattle.expr.specs.Token.{operand_count};
 ghost use Rattle.expr.specs.Expr.{below, reads_only, parse};
 ghost use Rattle.expr.specs.Shown.{is_whole, tokens_of};
-ghost use Rattle.trace.specs.Shown.{test_kind, symbol_room};
+ghost use Rattle.trace.specs.Shown.{symbol_room};
 ghost use Rattle.write.specs.Splice.{Wrote};
 ghost use Rattle.write.specs.Ascii.{ascii};
 ghost use Rattle.show.specs.Text.{unary_name, binary_name, token_text, kind_name, expr_text, refusal_text};
@@ -12,6 +12,7 @@ ghost use Rattle.show.specs.Text.{unary_name, binary_name, token_text, kind_name
 use expr::File;
 use expr::token::{Token, Tokens};
 use expr::word::{Binary, Unary};
+use file::Kind;
 
 // The refusal's line, from the buffer's first byte.
 pub fn put_refusal(reply: u32, offset: u32, out: &mut [u8]) -> usize
@@ -25,14 +26,14 @@ pub fn put_refusal(reply: u32, offset: u32, out: &mut [u8]) -> usize
 }
 
 // A test's kind, after a space.
-pub fn put_kind(kind: u8, out: &mut [u8], at: usize) -> usize
+pub fn put_kind(kind: Kind, out: &mut [u8], at: usize) -> usize
     requires { at + 7 < 2 ^ 64 }
-    ensures { Wrote out.old at (ascii " " ++ ascii (kind_name (test_kind kind))) out.new result × (result ≤ at + 7) }
+    ensures { Wrote out.old at (ascii " " ++ ascii (kind_name kind)) out.new result × (result ≤ at + 7) }
 {
     match kind {
-        3 => write::fit_part(b" assert", out, at),
-        4 => write::fit_part(b" bound", out, at),
-        _ => write::fit_part(b" assume", out, at),
+        Kind::Assume => write::fit_part(b" assume", out, at),
+        Kind::Assert => write::fit_part(b" assert", out, at),
+        Kind::Bound => write::fit_part(b" bound", out, at),
     }
 }
 

@@ -65,6 +65,26 @@ module _ {top : ℕ} {σ : Seen} {s : List ℕ} {at : ℕ} (h : Held top σ s at
           let z : test_kind code ≡ k = cc in
           (h.tests (eqb-false code 1 e)).0 ∙ ap {B = Stmt} (λ k. Test k place (expr_of h.statement)) z
 
+-- the record's kind, by what the statement does
+pub acts-code : (s : List ℕ) (at y : ℕ) → action_at s at ≡ A.Assign y → (get_or s (at + 2) 0 ≡ 1) × (y ≡ number_of 2 (drop (at + 5) s))
+acts-code s at y q = go (eqb (get_or s (at + 2) 0) 1) refl q
+  where
+    go : (b : Bool) → eqb (get_or s (at + 2) 0) 1 ≡ b
+        → cond b (A.Assign (number_of 2 (drop (at + 5) s))) (A.Test (test_kind (get_or s (at + 2) 0))) ≡ A.Assign y
+        → (get_or s (at + 2) 0 ≡ 1) × (y ≡ number_of 2 (drop (at + 5) s))
+    go true e q = (eqb-true (get_or s (at + 2) 0) 1 e, let z : y ≡ number_of 2 (drop (at + 5) s) = cc in z)
+    go false e q = absurd (let z : ◌≡◌ {A = ℕ} 0 1 = cc in omega arith)
+
+pub tests-code : (s : List ℕ) (at : ℕ) (k : Kind) → action_at s at ≡ A.Test k
+    → (get_or s (at + 2) 0 ≡ 1 → ⊥) × (k ≡ test_kind (get_or s (at + 2) 0))
+tests-code s at k q = go (eqb (get_or s (at + 2) 0) 1) refl q
+  where
+    go : (b : Bool) → eqb (get_or s (at + 2) 0) 1 ≡ b
+        → cond b (A.Assign (number_of 2 (drop (at + 5) s))) (A.Test (test_kind (get_or s (at + 2) 0))) ≡ A.Test k
+        → (get_or s (at + 2) 0 ≡ 1 → ⊥) × (k ≡ test_kind (get_or s (at + 2) 0))
+    go true e q = absurd (let z : ◌≡◌ {A = ℕ} 0 1 = cc in omega arith)
+    go false e q = (eqb-false (get_or s (at + 2) 0) 1 e, let z : k ≡ test_kind (get_or s (at + 2) 0) = cc in z)
+
 code-kind : (k : Kind) → test_kind (kind_code k) ≡ k
 code-kind Assume = refl
 code-kind Assert = refl

@@ -3,11 +3,11 @@ use Rattle.write.specs.SpliceLaws.{wrote_as}
 use Rattle.script.proofs.Pieces.{opening-assert, opening-assume}
 use Rattle.script.proofs.line.put_opening.Goals as goal
 
-pub returns-in-3 : goal.returns-in-3
-returns-in-3 c =
-    (wrote_as (opening-assert _ c.in-3.is) c.fit_part.ensures, omega (arith, c.fit_part.ensures.next))
+pub returns-in-Assert : goal.returns-in-Assert
+returns-in-Assert c =
+    (wrote_as (opening-assert _ c.in-Assert.is) c.fit_part.ensures, omega (arith, c.fit_part.ensures.next))
 
 pub returns-in_default : goal.returns-in_default
 returns-in_default c =
     let w = c.fit_part-in_default.ensures in
-    (wrote_as (opening-assume c.args.kind (λ q. omega arith)) w, omega (arith, w.next))
+    (wrote_as (opening-assume c.args.kind c.in_default.not-Assert) w, omega (arith, w.next))

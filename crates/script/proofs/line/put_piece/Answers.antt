@@ -1,7 +1,8 @@
 -- An Assign or a test: what it adds, or nothing.
 use native.Mathlib.Omega.{arith}
+use mathlib.Core.Path.{sym, ◌∙◌}
 use Rattle.trace.specs.Shown.{symbol_room, loose}
-use Rattle.trace.proofs.Held.{Held, held_at}
+use Rattle.trace.proofs.Held.{Held, held_at, acts-assign, acts-code, tests-code}
 use Rattle.trace.proofs.Passes.{expr-is-whole, assign-length, test-length}
 use Rattle.write.specs.SpliceLaws.{wrote_as}
 use Rattle.script.proofs.Pieces.{assign-piece, test-piece}
@@ -12,44 +13,40 @@ use Rattle.script.proofs.line.put_piece.Goals.{Start}
 here : (g : Over) (c : Start g) → Held symbol_room loose c.args.trace.now c.args.at
 here g c = held_at symbol_room loose c.args.trace.now c.args.at c.requires.1
 
-pub expr_at-e-requires : goal.expr_at-e-requires
-expr_at-e-requires g c =
-    let entry = (goal.at.expr_at-e-requires g c).Start in
-    ((here g entry).whole, (here g entry).starts)
-
-pub bounds-trace-at : goal.bounds-trace-at
-bounds-trace-at g c =
-    (here g (goal.at.bounds-trace-at g c).Start).kind-there
-
-pub two_at-symbol-requires : goal.two_at-symbol-requires
-two_at-symbol-requires g c =
-    omega (arith, ((here g (goal.at.two_at-symbol-requires g c).Start).assigns c.if-kind-eq1.true).2)
+pub stmt_at-stmt-requires : goal.stmt_at-stmt-requires
+stmt_at-stmt-requires g c = let h = here g (goal.at.stmt_at-stmt-requires g c).Start in (h.whole, h.starts)
 
 pub put_assign-requires : goal.put_assign-requires
+unfolding symbol_room
 put_assign-requires g c =
-    let entry = (goal.at.put_assign-requires g c).Start in (
-      c.two_at-symbol.ensures.1,
-      expr-is-whole (here g entry) c.expr_at-e.ensures,
-      omega (arith, assign-length (here g entry) c.expr_at-e.ensures c.if-kind-eq1.true, c.requires.2),
+    let h = here g (goal.at.put_assign-requires g c).Start in
+    let acts = sym c.stmt_at-stmt.ensures.1 ∙ c.in-Assign.is in
+    let small = (acts-assign h _ acts).1 in (
+      omega (arith, small),
+      expr-is-whole h c.stmt_at-stmt.ensures.2,
+      omega (arith, assign-length h c.stmt_at-stmt.ensures.2 (acts-code c.args.trace.now c.args.at _ acts).0, c.requires.2),
     )
 
-pub returns-then-kind-eq1 : goal.returns-then-kind-eq1
-returns-then-kind-eq1 g c =
-    let entry = (goal.at.returns-then-kind-eq1 g c).Start in (
-      wrote_as (assign-piece (here g entry) c.expr_at-e.ensures _ c.if-kind-eq1.true c.two_at-symbol.ensures.0) c.put_assign.ensures.0,
-      omega (arith, assign-length (here g entry) c.expr_at-e.ensures c.if-kind-eq1.true, c.put_assign.ensures.1),
+pub returns-in-Assign : goal.returns-in-Assign
+returns-in-Assign g c =
+    let h = here g (goal.at.returns-in-Assign g c).Start in
+    let acts = sym c.stmt_at-stmt.ensures.1 ∙ c.in-Assign.is in (
+      wrote_as (assign-piece h c.stmt_at-stmt.ensures.2 _ acts) c.put_assign.ensures.0,
+      omega (arith, assign-length h c.stmt_at-stmt.ensures.2 (acts-code c.args.trace.now c.args.at _ acts).0, c.put_assign.ensures.1),
     )
 
 pub put_test-requires : goal.put_test-requires
 put_test-requires g c =
-    let entry = (goal.at.put_test-requires g c).Start in (
-      expr-is-whole (here g entry) c.expr_at-e.ensures,
-      omega (arith, test-length (here g entry) c.expr_at-e.ensures c.if-kind-eq1.false, c.requires.2),
+    let h = here g (goal.at.put_test-requires g c).Start in
+    let acts = sym c.stmt_at-stmt.ensures.1 ∙ c.in-Test.is in (
+      expr-is-whole h c.stmt_at-stmt.ensures.2,
+      omega (arith, test-length h c.stmt_at-stmt.ensures.2 (tests-code c.args.trace.now c.args.at _ acts).0, c.requires.2),
     )
 
-pub returns : goal.returns
-returns g c =
-    let entry = (goal.at.returns g c).Start in (
-      wrote_as (test-piece (here g entry) c.expr_at-e.ensures _ c.if-kind-eq1.false) c.put_test.ensures.0,
-      omega (arith, test-length (here g entry) c.expr_at-e.ensures c.if-kind-eq1.false, c.put_test.ensures.1),
+pub returns-in-Test : goal.returns-in-Test
+returns-in-Test g c =
+    let h = here g (goal.at.returns-in-Test g c).Start in
+    let acts = sym c.stmt_at-stmt.ensures.1 ∙ c.in-Test.is in (
+      wrote_as (test-piece h c.stmt_at-stmt.ensures.2 _ acts) c.put_test.ensures.0,
+      omega (arith, test-length h c.stmt_at-stmt.ensures.2 (tests-code c.args.trace.now c.args.at _ acts).0, c.put_test.ensures.1),
     )
