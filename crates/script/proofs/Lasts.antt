@@ -4,9 +4,7 @@ use native.Mathlib.Omega.{arith}
 use mathlib.Core.Path.{◌≡◌, refl, sym, ap, ◌∙◌, subst}
 use mathlib.Core.Bool.{Bool, true, false, cond, ◌||◌}
 use mathlib.Core.List.{List, [], ◌∷◌}
-use lib.ListN.{length, drop, get_or}
-use lib.Dec.{eqb}
-use borrow.Author.Tests.{eqb-true, eqb-false, ne_eqb}
+use lib.ListN.{length, drop}
 use Rattle.expr.specs.Lists.{All}
 use Rattle.expr.specs.Number.{Byte, number_of}
 use Rattle.expr.specs.declared.token.Token.{Token}
@@ -16,8 +14,10 @@ use Rattle.file.specs.Shown.{is_accepted, listed, offsets_in}
 use Rattle.trace.specs.Trace.{Stmt, Assign, Test, read_trace}
 use Rattle.trace.specs.Asserts.{is_assert, has_assert, asserted}
 use Rattle.trace.specs.AssertsLaws.{asserted_none}
-use Rattle.trace.specs.Shown.{test_kind, symbol_room, loose, expr_of}
-use Rattle.trace.proofs.Held.{Held}
+use Rattle.trace.specs.declared.read.Action.{Action}
+use Rattle.trace.specs.declared.read.Action.TheVariants as A
+use Rattle.trace.specs.Shown.{symbol_room, loose, expr_of, action_at}
+use Rattle.trace.proofs.Held.{Held, acts-assign, acts-test}
 use Rattle.trace.proofs.Passes.{known, pass-end}
 use Rattle.trace.proofs.Standing.{Walking, walking-start, Turn, walking-turn, walking-end}
 use Rattle.script.specs.Shown.{test_count, seen_after, statements_after, tests_after}
@@ -71,18 +71,11 @@ module _ (ts : List Stmt) (k seen statements tests p : ℕ) (e : List Token) (ls
           let z : test_count (asserted ls) ≡ 0 = ap test_count (asserted_none ls h) in
           record { last = rw h (omega (arith, v.last)); inner = rw h (omega (arith, v.inner)) }
 
-not_assert : (kind : ℕ) → eqb kind 3 ≡ false → is_assert (test_kind kind) ≡ false
-not_assert kind h = rw h (go (eqb kind 4))
-  where
-    go : (b : Bool) → is_assert (cond b Bound Assume) ≡ false
-    go true = refl
-    go false = refl
-
--- by the kind of the record at an offset
-kind-left : (ts : List Stmt) (k seen statements tests : ℕ) {s : List ℕ} {at : ℕ} (h : Held symbol_room loose s at) (kind : ℕ)
-    → kind ≡ get_or s (at + 2) 0 → (t : Stmt) → h.statement ≡ t → (ls : List Stmt) → Left ts k seen statements tests (t ∷ ls)
-    → Left ts (k + 1) (seen_after kind seen) (statements_after kind (k + 1) statements) (tests_after kind seen tests) ls
-kind-left ts k seen statements tests {s} {at} h kind q t z ls v = go (eqb kind 1) refl (eqb kind 3) refl
+-- by what the statement of the record at an offset does
+action-left : (ts : List Stmt) (k seen statements tests : ℕ) {s : List ℕ} {at : ℕ} (h : Held symbol_room loose s at) (a : Action)
+    → a ≡ action_at s at → (t : Stmt) → h.statement ≡ t → (ls : List Stmt) → Left ts k seen statements tests (t ∷ ls)
+    → Left ts (k + 1) (seen_after a seen) (statements_after a (k + 1) statements) (tests_after a seen tests) ls
+action-left ts k seen statements tests {s} {at} h a q t z ls v = go a q
   where
     by : (u : Stmt) → h.statement ≡ u → Left ts k seen statements tests (u ∷ ls)
     by u e = subst (λ x. Left ts k seen statements tests (x ∷ ls)) (sym z ∙ e) v
@@ -93,21 +86,12 @@ kind-left ts k seen statements tests {s} {at} h kind q t z ls v = go (eqb kind 1
     e : List Token
     e = expr_of h.statement
 
-    is-test : (kind ≡ 1 → ⊥) → (d : Kind) → test_kind kind ≡ d → h.statement ≡ Test d place e
-    is-test n d f = (h.tests (λ y. n (q ∙ y))).0 ∙ ap (λ d. Test d place e) (ap test_kind (sym q) ∙ f)
-
-    go : (a : Bool) → eqb kind 1 ≡ a → (b : Bool) → eqb kind 3 ≡ b
-        → Left ts (k + 1) (seen_after kind seen) (statements_after kind (k + 1) statements) (tests_after kind seen tests) ls
-    go true a b f =
-        let o : kind ≡ 1 = eqb-true kind 1 a in
-        rw (a, ne_eqb kind 3 (λ y. omega arith))
-        (assign-left ts k seen statements tests place e ls (number_of 2 (drop (at + 5) s)) (by _ (h.assigns (sym q ∙ o)).0))
-    go false a true f =
-        let is = is-test (eqb-false kind 1 a) Assert (rw f) in
-        rw (a, f) (assert-left ts k seen statements tests place e ls (by _ is))
-    go false a false f =
-        let is = is-test (eqb-false kind 1 a) (test_kind kind) refl in
-        rw (a, f) (other-left ts k seen statements tests place e ls (test_kind kind) (not_assert kind f) (by _ is))
+    go : (a : Action) → a ≡ action_at s at
+        → Left ts (k + 1) (seen_after a seen) (statements_after a (k + 1) statements) (tests_after a seen tests) ls
+    go (A.Assign x) q = assign-left ts k seen statements tests place e ls x (by _ (acts-assign h x (sym q)).0)
+    go (A.Test Assume) q = other-left ts k seen statements tests place e ls Assume refl (by _ (acts-test h Assume (sym q)))
+    go (A.Test Assert) q = assert-left ts k seen statements tests place e ls (by _ (acts-test h Assert (sym q)))
+    go (A.Test Bound) q = other-left ts k seen statements tests place e ls Bound refl (by _ (acts-test h Bound (sym q)))
 
 -- ---- the loop
 
@@ -141,28 +125,28 @@ module _ {s : List ℕ} {n k : ℕ} {left : List ℕ} {count seen statements tes
     seeking_low = (omega (arith, v.here, v.most, seeking_turn.more), omega (arith, v.counted, v.most, seeking_turn.more))
 
     -- with the code's own count of the records
-    pub seeking_on : {k' : ℕ} → k' ≡ k + 1 → (kind : ℕ) → kind ≡ get_or s (at + 2) 0 → {c a b d : ℕ}
-        → (c ≡ count + 1) × (a ≡ seen_after kind seen) × (b ≡ statements_after kind (count + 1) statements)
-        × (d ≡ tests_after kind seen tests) → Seeking s n k' behind c a b d
-    seeking_on q kind f {c} {a} {b} {d} (w, x, y, z) =
+    pub seeking_on : {k' : ℕ} → k' ≡ k + 1 → (act : Action) → act ≡ action_at s at → {c a b d : ℕ}
+        → (c ≡ count + 1) × (a ≡ seen_after act seen) × (b ≡ statements_after act (count + 1) statements)
+        × (d ≡ tests_after act seen tests) → Seeking s n k' behind c a b d
+    seeking_on q act f {c} {a} {b} {d} (w, x, y, z) =
         let ts = listed (read_trace s) in
         let passed = seeking_turn.passed in
         let here = passed.here in
         let same : here.statement ≡ passed.statement = (let w = sym here.is ∙ passed.holds in cc) in
-        let next = kind-left ts k seen statements tests here kind f passed.statement same (drop (k + 1) ts)
+        let next = action-left ts k seen statements tests here act f passed.statement same (drop (k + 1) ts)
         (subst (Left ts k seen statements tests) passed.split v.notes) in
         rw q (record {
           walking = seeking_turn.then;
           many = v.many;
           most = v.most;
           here = omega (arith, v.here);
-          counted = (let w = after_le (eqb kind 1) in omega (arith, v.counted));
+          counted = (let w = after_le act in omega (arith, v.counted));
           notes = rw (x, y, z, v.here) next;
         })
       where
-        after_le : (t : Bool) → cond t seen (seen + 1) ≤ seen + 1
-        after_le true = omega arith
-        after_le false = omega arith
+        after_le : (act : Action) → seen_after act seen ≤ seen + 1
+        after_le (A.Assign x) = omega arith
+        after_le (A.Test d) = omega arith
 
   pub seeking_end : left ≡ [] → (statements ≡ length (asserted (listed (read_trace s))))
       × (tests ≡ test_count (asserted (listed (read_trace s))))

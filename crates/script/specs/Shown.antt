@@ -1,5 +1,5 @@
 -- What the code's values mean: the text of a token, what a statement adds to a part of the script, and the last Assert.
-use Rattle.std.specs.Prelude.{ℕ, suc, ◌+◌, ◌-◌, cond, List, [], ◌∷◌, ◌++◌, replicate, eqb}
+use Rattle.std.specs.Prelude.{ℕ, suc, ◌+◌, ◌-◌, cond, List, [], ◌∷◌, ◌++◌, replicate}
 use Prim.Native.String.{String}
 use Rattle.expr.specs.declared.word.Unary.{Unary}
 use Rattle.expr.specs.declared.word.Unary.TheVariants.{Not, Neg, Zero}
@@ -9,8 +9,10 @@ use Rattle.expr.specs.declared.token.Token.{Token}
 use Rattle.expr.specs.Expr.{pops}
 use Rattle.file.specs.Outcome.{Kind, Assume, Assert, Bound}
 use Rattle.file.specs.File.{Body, Good, Bad, Input, Accepted, Refused}
+use Rattle.trace.specs.declared.read.Action.{Action}
+use Rattle.trace.specs.declared.read.Action.TheVariants as A
 use Rattle.trace.specs.Trace.{Stmt, Assign, Test}
-use Rattle.trace.specs.Asserts.{asserted}
+use Rattle.trace.specs.Asserts.{is_assert, asserted}
 use Rattle.write.specs.Ascii.{ascii}
 use Rattle.script.specs.Script.{token_term, expr_term, numbers_from}
 use Rattle.script.specs.ScriptText.{slot_name, term_text, declaration, declarations, equation_line, script_text}
@@ -109,15 +111,18 @@ test_count [] = 0
 test_count (Assign p x e ∷ ts) = test_count ts
 test_count (Test k p e ∷ ts) = suc (test_count ts)
 
--- by the next statement's kind, which is the k-th
-abbrev pub seen_after : (kind seen : ℕ) → ℕ
-seen_after kind seen = cond (eqb kind 1) seen (seen + 1)
+-- by what the next statement does, which is the k-th
+abbrev pub seen_after : Action → (seen : ℕ) → ℕ
+seen_after (A.Assign x) seen = seen
+seen_after (A.Test d) seen = seen + 1
 
-abbrev pub statements_after : (kind k statements : ℕ) → ℕ
-statements_after kind k statements = cond (eqb kind 3) k statements
+abbrev pub statements_after : Action → (k statements : ℕ) → ℕ
+statements_after (A.Assign x) k statements = statements
+statements_after (A.Test d) k statements = cond (is_assert d) k statements
 
-abbrev pub tests_after : (kind seen tests : ℕ) → ℕ
-tests_after kind seen tests = cond (eqb kind 3) (seen + 1) tests
+abbrev pub tests_after : Action → (seen tests : ℕ) → ℕ
+tests_after (A.Assign x) seen tests = tests
+tests_after (A.Test d) seen tests = cond (is_assert d) (seen + 1) tests
 
 -- ---- the whole script
 

@@ -181,23 +181,23 @@ pub struct Noted {
 }
 
 impl Noted {
-    // One statement more, by its kind.
-    fn and(self, kind: u8) -> Noted
+    // One statement more, by what it does.
+    fn and(self, action: Action) -> Noted
         requires { (self.count < 65536) × (self.seen < 65536) }
-        ensures { (result.count ≡ self.count + 1) × (result.seen ≡ seen_after kind self.seen)
-            × (result.statements ≡ statements_after kind (self.count + 1) self.statements)
-            × (result.tests ≡ tests_after kind self.seen self.tests) }
+        ensures { (result.count ≡ self.count + 1) × (result.seen ≡ seen_after action self.seen)
+            × (result.statements ≡ statements_after action (self.count + 1) self.statements)
+            × (result.tests ≡ tests_after action self.seen self.tests) }
     {
         let count = self.count + 1;
-        match kind {
-            1 => Noted { count, ..self },
-            3 => Noted {
+        match action {
+            Action::Assign(_) => Noted { count, ..self },
+            Action::Test(Kind::Assert) => Noted {
                 count,
                 seen: self.seen + 1,
                 statements: count,
                 tests: self.seen + 1,
             },
-            _ => Noted {
+            Action::Test(_) => Noted {
                 count,
                 seen: self.seen + 1,
                 ..self
@@ -214,7 +214,7 @@ pub fn last_assert(trace: &[u8], n: usize) -> Noted
 {
     let mut noted = Noted::default();
     for at in Records::first(trace, n) {
-        noted = noted.and(trace[at + 2]);
+        noted = noted.and(read::stmt_at(trace, at).action);
     }
     noted
 }

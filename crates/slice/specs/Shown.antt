@@ -4,6 +4,8 @@ use Rattle.std.specs.Prelude.{Result, Ok, Err}
 use Rattle.expr.specs.Word.{bit}
 use Rattle.expr.specs.Eval.{reads}
 use Rattle.file.specs.File.{Body, Good, Bad, record_bytes, records_bytes}
+use Rattle.trace.specs.declared.read.Action.{Action}
+use Rattle.trace.specs.declared.read.Action.TheVariants as A
 use Rattle.trace.specs.Trace.{Stmt, Assign, Test, reads_trace, stmt_bytes}
 use Rattle.trace.specs.Shown.{expr_of}
 use Rattle.trace.specs.Asserts.{is_assert}
@@ -32,6 +34,11 @@ abbrev pub keep_stmt : (asserts : Bool) (needed : ℕ → Bool) → Stmt → Boo
 keep_stmt asserts needed (Assign p x e) = needed x
 keep_stmt asserts needed (Test k p e) = is_assert k || asserts
 
+-- by what the code has of it
+abbrev pub keep_by : (asserts : Bool) (needed : ℕ → Bool) → Action → Bool
+keep_by asserts needed (A.Assign x) = needed x
+keep_by asserts needed (A.Test k) = is_assert k || asserts
+
 abbrev pub keep_in : (asserts : Bool) (needed : ℕ → Bool) → Body Stmt → Bool
 keep_in asserts needed (Good t) = keep_stmt asserts needed t
 keep_in asserts needed (Bad r) = false
@@ -40,6 +47,10 @@ abbrev pub asserts_in : Body Stmt → Bool
 asserts_in (Good (Assign p x e)) = false
 asserts_in (Good (Test k p e)) = is_assert k
 asserts_in (Bad r) = false
+
+abbrev pub asserts_by : Action → Bool
+asserts_by (A.Assign x) = false
+asserts_by (A.Test k) = is_assert k
 
 -- ---- the walk back
 

@@ -3,13 +3,16 @@ ghost use Rattle.std.specs.Prelude.{◌≡◌, true, false, ◌||◌, ℕ, ◌+�
 ghost use Rattle.expr.specs.Number.{number_of};
 ghost use Rattle.file.specs.Shown.{is_good, listed};
 ghost use Rattle.trace.specs.Trace.{read_trace};
-ghost use Rattle.trace.specs.Shown.{held, Ready};
-ghost use Rattle.slice.specs.Shown.{in_set, keep_in, reads_in, Stepped, WalkedBack};
+ghost use Rattle.trace.specs.declared.read.Action.TheVariants.{Assign};
+ghost use Rattle.trace.specs.Shown.{symbol_room, held, Ready};
+ghost use Rattle.slice.specs.Shown.{in_set, keep_by, asserts_by, Stepped, WalkedBack};
 
 use super::reads;
 use super::sets::Symbols;
 use expr::number;
+use file::Kind;
 use trace::read;
+use trace::read::Action;
 
 // What is kept of the statements behind: whether an Assert is among them, how many they are, and their bytes.
 #[derive(Clone, Copy)]
@@ -19,26 +22,22 @@ pub struct Kept {
     pub size: usize,
 }
 
-// Whether the statement at a place is kept, where `asserts` says if an Assert follows it.
-fn keeps(trace: &[u8], at: usize, asserts: bool, needed: &Symbols) -> bool
-    requires { (at < 65536) × (is_good (held (drop at trace.now)) ≡ true) }
-    ensures { result ≡ keep_in asserts (in_set needed.now) (held (drop at trace.now)) }
+// Whether a statement is an Assert, by what it does.
+fn is_assert(action: Action) -> bool
+    ensures { result ≡ asserts_by action }
 {
-    let kind = trace[at + 2];
-    if kind == 1 {
-        let symbol = number::two_at(trace, at + 5);
-        return needed.contains(symbol);
-    }
-    kind == 3 || asserts
+    matches!(action, Action::Test(Kind::Assert))
 }
 
-// The symbols that the statement at a place reads become needed.
-fn mark_record(trace: &[u8], at: usize, needed: &mut Symbols)
-    requires { (at < 65536) × (is_good (held (drop at trace.now)) ≡ true) }
-    ensures { (x : ℕ) → in_set needed.new x
-        ≡ (reads_in x (held (drop at trace.now)) || in_set needed.old x) }
+// Whether a statement is kept, by what it does, where `asserts` says if an Assert follows it.
+fn keeps(action: Action, asserts: bool, needed: &Symbols) -> bool
+    requires { (x : ℕ) → action ≡ Assign x → x < symbol_room }
+    ensures { result ≡ keep_by asserts (in_set needed.now) action }
 {
-    reads::mark_reads(read::expr_at(trace, at), needed);
+    match action {
+        Action::Assign(symbol) => needed.contains(symbol),
+        Action::Test(kind) => kind == Kind::Assert || asserts,
+    }
 }
 
 // The statement k, whose record stands at a place.
@@ -55,11 +54,12 @@ fn step_back(
     ensures { Stepped (held (drop at trace.now)) (2 + number_of 2 (drop at trace.now)) k behind
         kept.old (in_set needed.old) kept.new (in_set needed.new) result }
 {
-    if keeps(trace, at, behind.asserts, &*needed) {
-        mark_record(trace, at, needed);
+    let stmt = read::stmt_at(trace, at);
+    if keeps(stmt.action, behind.asserts, &*needed) {
+        reads::mark_reads(stmt.expr, needed);
         kept[k] = true;
         return Kept {
-            asserts: trace[at + 2] == 3 || behind.asserts,
+            asserts: is_assert(stmt.action) || behind.asserts,
             count: behind.count + 1,
             size: behind.size + (2 + number::two_at(trace, at)),
         };
