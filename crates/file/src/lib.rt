@@ -11,6 +11,7 @@ ghost use Rattle.file.specs.File.{head_size, inputs_limit, header_version, heade
 ghost use Rattle.file.specs.File.{header_reply, frame};
 ghost use Rattle.file.specs.Outcome.{Failed, verdict, place_of};
 ghost use Rattle.file.specs.Words.{words_of};
+ghost use Rattle.file.specs.declared.Reason.TheVariants.{Expression};
 ghost use Rattle.file.specs.Shown.{reply_of, first_reply, frame_in, fault_in, expr_fault, rest_of};
 
 use expr::accept::Checked;
@@ -215,10 +216,20 @@ pub fn expr_fault(
 {
     match accept::check_expr(&body[from..], f, inputs, assigned) {
         Checked::Fine => Ok(()),
-        Checked::Broken(at) => Err(Refusal {
-            reason: Reason::Expression,
-            offset: 2 + from + at,
-        }),
+        Checked::Broken(at) => Err(broken(from, at)),
+    }
+}
+
+// The refusal of a token so far behind a place of a record's body. Out of line, since else every good expression pays for it.
+#[cold]
+#[inline(never)]
+fn broken(from: usize, at: usize) -> Refusal
+    requires { 2 + from + at < 2 ^ 64 }
+    ensures { result ≡ record { reason = Expression; offset = 2 + from + at } }
+{
+    Refusal {
+        reason: Reason::Expression,
+        offset: 2 + from + at,
     }
 }
 

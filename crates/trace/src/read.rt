@@ -64,6 +64,7 @@ impl Seen {
     }
 
     // Refuses a test of a known kind by its bytes after its length.
+    #[inline(always)]
     fn check_test(&self, body: &[u8]) -> Result<(), Refusal>
         requires { (known_test self.now.bounds (get_or body.now 0 0) ≡ true) × (0 < length body.now) }
         ensures { fault_in result ≡ fault_of (length body.now) (stmt (self.now.inputs + 4096) (seen_in self.now) body.now) }
