@@ -130,43 +130,44 @@ seeking_start s n o h q e = record {
   notes = left-start (listed (read_trace s));
 }
 
-module _ {s : List ℕ} {n k : ℕ} {left : List ℕ} {count seen statements tests : ℕ} (v : Seeking s n k left count seen statements tests)
-  where
-    -- the next offset is `at`
-    module _ (at : ℕ) (behind : List ℕ) (e : left ≡ at ∷ behind) where
-      pub seeking_turn : Turn s n k v.walking.at at behind
-      seeking_turn = walking-turn v.walking (omega (arith, v.many)) at behind e
+module _ {s : List ℕ} {n k : ℕ} {left : List ℕ} {count seen statements tests : ℕ}
+    (v : Seeking s n k left count seen statements tests) where
+  -- the next offset is `at`
+  module _ (at : ℕ) (behind : List ℕ) (e : left ≡ at ∷ behind) where
+    pub seeking_turn : Turn s n k v.walking.at at behind
+    seeking_turn = walking-turn v.walking (omega (arith, v.many)) at behind e
 
-      pub seeking_low : (count < 65536) × (seen < 65536)
-      seeking_low = (omega (arith, v.here, v.most, seeking_turn.more), omega (arith, v.counted, v.most, seeking_turn.more))
+    pub seeking_low : (count < 65536) × (seen < 65536)
+    seeking_low = (omega (arith, v.here, v.most, seeking_turn.more), omega (arith, v.counted, v.most, seeking_turn.more))
 
-      pub seeking_on : (kind : ℕ) → kind ≡ get_or s (at + 2) 0 → {c a b d : ℕ}
-          → (c ≡ count + 1) × (a ≡ seen_after kind seen) × (b ≡ statements_after kind (count + 1) statements)
-          × (d ≡ tests_after kind seen tests) → Seeking s n (k + 1) behind c a b d
-      seeking_on kind f {c} {a} {b} {d} (w, x, y, z) =
-          let ts = listed (read_trace s) in
-          let passed = seeking_turn.passed in
-          let here = passed.here in
-          let same : here.statement ≡ passed.statement = (let w = sym here.is ∙ passed.holds in cc) in
-          let next = kind-left ts k seen statements tests here kind f passed.statement same (drop (k + 1) ts)
-          (subst (Left ts k seen statements tests) passed.split v.notes) in
-          record {
-            walking = seeking_turn.then;
-            many = v.many;
-            most = v.most;
-            here = omega (arith, v.here);
-            counted = (let w = after_le (eqb kind 1) in omega (arith, v.counted));
-            notes = rw (x, y, z, v.here) next;
-          }
-        where
-          after_le : (t : Bool) → cond t seen (seen + 1) ≤ seen + 1
-          after_le true = omega arith
-          after_le false = omega arith
-
-    pub seeking_end : left ≡ [] → (statements ≡ length (asserted (listed (read_trace s))))
-        × (tests ≡ test_count (asserted (listed (read_trace s))))
-    seeking_end e =
+    -- with the code's own count of the records
+    pub seeking_on : {k' : ℕ} → k' ≡ k + 1 → (kind : ℕ) → kind ≡ get_or s (at + 2) 0 → {c a b d : ℕ}
+        → (c ≡ count + 1) × (a ≡ seen_after kind seen) × (b ≡ statements_after kind (count + 1) statements)
+        × (d ≡ tests_after kind seen tests) → Seeking s n k' behind c a b d
+    seeking_on q kind f {c} {a} {b} {d} (w, x, y, z) =
         let ts = listed (read_trace s) in
-        let none = pass-end v.walking.passing (omega (arith, v.many, walking-end v.walking e)) in
-        let w = subst (Left ts k seen statements tests) none v.notes in
-        (w.last, w.inner)
+        let passed = seeking_turn.passed in
+        let here = passed.here in
+        let same : here.statement ≡ passed.statement = (let w = sym here.is ∙ passed.holds in cc) in
+        let next = kind-left ts k seen statements tests here kind f passed.statement same (drop (k + 1) ts)
+        (subst (Left ts k seen statements tests) passed.split v.notes) in
+        rw q (record {
+          walking = seeking_turn.then;
+          many = v.many;
+          most = v.most;
+          here = omega (arith, v.here);
+          counted = (let w = after_le (eqb kind 1) in omega (arith, v.counted));
+          notes = rw (x, y, z, v.here) next;
+        })
+      where
+        after_le : (t : Bool) → cond t seen (seen + 1) ≤ seen + 1
+        after_le true = omega arith
+        after_le false = omega arith
+
+  pub seeking_end : left ≡ [] → (statements ≡ length (asserted (listed (read_trace s))))
+      × (tests ≡ test_count (asserted (listed (read_trace s))))
+  seeking_end e =
+      let ts = listed (read_trace s) in
+      let none = pass-end v.walking.passing (omega (arith, v.many, walking-end v.walking e)) in
+      let w = subst (Left ts k seen statements tests) none v.notes in
+      (w.last, w.inner)

@@ -137,12 +137,13 @@ module _ {part : Part} {s : List ℕ} {n : ℕ} {out₀ : List ℕ} {to : ℕ} {
     pub listing_room : to ≤ 30000000 → next + 130 * (2 + number_of 2 (drop at s)) < 2 ^ 64
     listing_room l = omega (arith, v.little, here.is, here.here.few, here.passed.here.whole)
 
-    pub listing_on : {out' : List ℕ} {next' : ℕ} → Wrote out next (piece_in part (held (drop at s))) out' next'
-        × (next' ≤ next + 130 * (2 + number_of 2 (drop at s))) → Listing part s n out₀ to out' (k + 1) behind next'
-    listing_on (w, l) =
+    -- with the code's own count of the records
+    pub listing_on : {k' : ℕ} → k' ≡ k + 1 → {out' : List ℕ} {next' : ℕ} → Wrote out next (piece_in part (held (drop at s))) out' next'
+        × (next' ≤ next + 130 * (2 + number_of 2 (drop at s))) → Listing part s n out₀ to out' k' behind next'
+    listing_on q (w, l) =
         let left = drop (k + 1) (listed (read_trace s)) in
         let m = n - (k + 1) in
-        record {
+        rw q (record {
           walking = here.then;
           wrote =
               ahead_step v.wrote
@@ -150,7 +151,7 @@ module _ {part : Part} {s : List ℕ} {n : ℕ} {out₀ : List ℕ} {to : ℕ} {
               ∙ ap (λ b. piece_in part b ++ pieces part (take m left)) (sym here.passed.holds)) w;
           many = v.many;
           little = omega (arith, v.little, here.is, here.on);
-        }
+        })
 
   pub listing_end : left ≡ [] → Wrote out₀ to (pieces part (take n (listed (read_trace s)))) out next × (next ≤ to + 130 * 65535)
   listing_end e =

@@ -90,9 +90,10 @@ module _ {s : List ℕ} {n : ℕ} {out₀ : List ℕ} {to : ℕ} {out : List ℕ
     pub listing_room : next + 6 * (2 + number_of 2 (drop at s)) < 2 ^ 64
     listing_room = omega (arith, v.little, here.is, here.here.few, here.passed.here.whole)
 
-    pub listing_on : {out' : List ℕ} {next' : ℕ} → Wrote out next (line_in (held (drop at s))) out' next'
-        × (next' ≤ next + 6 * (2 + number_of 2 (drop at s))) → Listing s n out₀ to out' (k + 1) behind next'
-    listing_on (w, l) = record {
+    -- with the code's own count of the records
+    pub listing_on : {k' : ℕ} → k' ≡ k + 1 → {out' : List ℕ} {next' : ℕ} → Wrote out next (line_in (held (drop at s))) out' next'
+        × (next' ≤ next + 6 * (2 + number_of 2 (drop at s))) → Listing s n out₀ to out' k' behind next'
+    listing_on q (w, l) = rw q (record {
       walking = here.then;
       wrote =
           ahead_step v.wrote
@@ -100,7 +101,7 @@ module _ {s : List ℕ} {n : ℕ} {out₀ : List ℕ} {to : ℕ} {out : List ℕ
           ∙ ap (λ b. line_in b ++ stmt_lines (drop (k + 1) (listed (read_trace s)))) (sym here.passed.holds)) w;
       many = v.many;
       little = omega (arith, v.little, here.is, here.on);
-    }
+    })
 
   pub listing_end : left ≡ [] → Wrote out₀ to (stmt_lines (listed (read_trace s))) out next × (next ≤ 393210)
   listing_end e = (

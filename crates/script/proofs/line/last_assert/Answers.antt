@@ -1,8 +1,8 @@
-use Rattle.std.proofs.Common.{refl, sym, ◌∙◌, subst, arith}
+use Rattle.std.proofs.Common.{refl, ◌∙◌, arith}
 use Rattle.std.proofs.lemmas.List.{length_push}
 use Rattle.expr.specs.Lists.{all-at}
 use Rattle.expr.specs.Number.{Byte}
-use Rattle.script.proofs.Lasts.{Seeking, seeking_start, seeking_turn, seeking_low, seeking_on, seeking_end}
+use Rattle.script.proofs.Lasts.{seeking_start, seeking_turn, seeking_low, seeking_on, seeking_end}
 use Rattle.script.proofs.line.last_assert.Goals as goal
 
 pub loop-at-init : goal.loop-at-init
@@ -25,10 +25,7 @@ and-noted-requires c = seeking_low c.loop-at.invariant _ _ c.in-Some.ensures.ste
 
 pub loop-at-preserved : goal.loop-at-preserved
 loop-at-preserved c =
-    let noted = c.and-noted.result in
-    subst (λ k. Seeking c.args.trace.now c.args.n k c.next.new.self noted.count noted.seen noted.statements noted.tests)
-    (sym (length_push c.loop-at.yielded c.in-Some.at))
-    (seeking_on c.loop-at.invariant _ _ c.in-Some.ensures.steps _ refl c.and-noted.ensures)
+    seeking_on c.loop-at.invariant _ _ c.in-Some.ensures.steps (length_push c.loop-at.yielded _) _ refl c.and-noted.ensures
 
 pub returns : goal.returns
 returns c = seeking_end c.loop-at.invariant c.in-None.ensures.steps.0

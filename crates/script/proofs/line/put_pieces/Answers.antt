@@ -1,8 +1,8 @@
-use Rattle.std.proofs.Common.{sym, ◌∙◌, subst}
+use Rattle.std.proofs.Common.{◌∙◌}
 use Rattle.std.proofs.lemmas.List.{length_push}
 use Rattle.expr.specs.Lists.{all-at}
 use Rattle.expr.specs.Number.{Byte}
-use Rattle.script.proofs.Pieces.{Listing, listing_start, listing_low, listing_good, listing_room, listing_on, listing_end}
+use Rattle.script.proofs.Pieces.{listing_start, listing_low, listing_good, listing_room, listing_on, listing_end}
 use Rattle.script.proofs.line.put_pieces.Goals as goal
 
 pub loop-at-init : goal.loop-at-init
@@ -18,10 +18,7 @@ put_piece-next-requires g c =
 
 pub loop-at-preserved : goal.loop-at-preserved
 loop-at-preserved g c =
-    subst (λ k. Listing g.S.Step.part c.args.trace.now c.args.n c.args.out.now c.args.to c.put_piece-next.new.out k c.next.new.self
-    c.put_piece-next.result)
-    (sym (length_push c.loop-at.yielded c.in-Some.at))
-    (listing_on c.loop-at.invariant _ _ c.in-Some.ensures.steps c.put_piece-next.ensures)
+    listing_on c.loop-at.invariant _ _ c.in-Some.ensures.steps (length_push c.loop-at.yielded _) c.put_piece-next.ensures
 
 pub returns : goal.returns
 returns g c = listing_end c.loop-at.invariant c.in-None.ensures.steps.0

@@ -1,8 +1,8 @@
-use Rattle.std.proofs.Common.{sym, ◌∙◌, subst}
+use Rattle.std.proofs.Common.{◌∙◌}
 use Rattle.std.proofs.lemmas.List.{length_push}
 use Rattle.expr.specs.Lists.{all-at}
 use Rattle.expr.specs.Number.{Byte}
-use Rattle.show.proofs.Lines.{Listing, listing_start, listing_low, listing_good, listing_room, listing_on, listing_end}
+use Rattle.show.proofs.Lines.{listing_start, listing_low, listing_good, listing_room, listing_on, listing_end}
 use Rattle.show.proofs.line.put_lines.Goals as goal
 
 pub loop-at-init : goal.loop-at-init
@@ -18,9 +18,7 @@ put_line-next-requires c =
 
 pub loop-at-preserved : goal.loop-at-preserved
 loop-at-preserved c =
-    subst (λ k. Listing c.args.trace.now c.args.n c.args.out.now c.args.to c.put_line-next.new.out k c.next.new.self c.put_line-next.result)
-    (sym (length_push c.loop-at.yielded c.in-Some.at))
-    (listing_on c.loop-at.invariant _ _ c.in-Some.ensures.steps c.put_line-next.ensures)
+    listing_on c.loop-at.invariant _ _ c.in-Some.ensures.steps (length_push c.loop-at.yielded _) c.put_line-next.ensures
 
 pub returns : goal.returns
 returns c = listing_end c.loop-at.invariant c.in-None.ensures.steps.0
