@@ -152,5 +152,6 @@ module _ {s : List ℕ} {n k : ℕ} {left : List ℕ} {count seen statements tes
       × (tests ≡ test_count (asserted (listed (read_trace s))))
   seeking_end e =
       let ts = listed (read_trace s) in
-      let w = subst (Left ts k seen statements tests) (pass-end v.walking.passing (omega (arith, v.many, walking-end v.walking e))) v.notes in
+      let none = pass-end v.walking.passing (omega (arith, v.many, walking-end v.walking e)) in
+      let w = subst (Left ts k seen statements tests) none v.notes in
       (w.last, w.inner)
