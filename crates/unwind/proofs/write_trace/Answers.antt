@@ -1,5 +1,5 @@
 -- The answer by the way that the code takes to it: each `return` cites the law of that way (`proofs/Answers.antt`).
-use Prim.Native.Nat.{ℕ, ◌+◌, ◌*◌, ◌≤◌}
+use Prim.Native.Nat.{ℕ, ◌≤◌}
 use native.Mathlib.Omega.{arith}
 use mathlib.Core.Path.{◌≡◌, refl, sym, ◌∙◌}
 use mathlib.Core.List.{List}
@@ -14,7 +14,6 @@ use Rattle.file.proofs.ReadingLaws.{reply_refuses}
 use Rattle.table.specs.Table.{is_table, read_table}
 use Rattle.table.specs.Shown.{Ready}
 use Rattle.table.proofs.Answers.{offset-small, table-accepted, right-header, many, is-ready}
-use Rattle.unwind.proofs.Writing.{place-little}
 use Rattle.unwind.proofs.Answers.{table_refuses, bound_refuses, count_refuses, size_refuses, room_refuses, trace_written}
 use Rattle.unwind.proofs.write_trace.Goals as goal
 use Rattle.unwind.proofs.write_trace.Goals.{Else-reply-ne0}
@@ -49,9 +48,6 @@ module _ (c : Else-reply-ne0) where
   few : n ≤ 1024
   few = omega (arith, ready.count, head.count)
 
-  statements : (K : ℕ) → K ≤ 255 → (K + 1) * (n + 1) + 0 ≤ 263424
-  statements K l = place-little n 0 (K + 1) few (omega arith) (omega arith)
-
 pub overflow_cast-t : goal.overflow_cast-t
 overflow_cast-t c =
     let s = c.args.table.now in
@@ -75,16 +71,6 @@ slice_bounds-offsets-end c = (whole (goal.at.slice_bounds-offsets-end c).Else-re
 
 pub slice_bounds-stored-end : goal.slice_bounds-stored-end
 slice_bounds-stored-end c = sym (cut-long (whole (goal.at.slice_bounds-stored-end c).Else-reply-ne0))
-
-pub overflow_add-count-2 : goal.overflow_add-count-2
-overflow_add-count-2 c = omega (arith, few (goal.at.overflow_add-count-2 c).Else-reply-ne0)
-
-pub overflow_mul-count : goal.overflow_mul-count
-overflow_mul-count c = omega (arith, statements (goal.at.overflow_mul-count c).Else-reply-ne0 c.args.bound c.if-bound-gt255.false)
-
-pub overflow_add-count-3 : goal.overflow_add-count-3
-overflow_add-count-3 c =
-    omega (arith, statements (goal.at.overflow_add-count-3 c).Else-reply-ne0 c.args.bound c.if-bound-gt255.false)
 
 pub returns-then-count-gt4096 : goal.returns-then-count-gt4096
 returns-then-count-gt4096 c =
