@@ -36,9 +36,6 @@ loop-r-preserved c =
     copies-on (count-is (goal.at.loop-r-preserved c).After-shared_slice_known-1) c.loop-r.invariant c.loop-r-test.true _ _ _
     c.write_copy-g.auto.names c.write_copy-g.ensures
 
-pub returns : goal.returns
-returns c = copies-end (count-is (goal.at.returns c).After-shared_slice_known-1) c.loop-r.invariant c.loop-r-test.false
-
 -- behind the last copy
 pub returns-2 : goal.returns-2
 returns-2 c =

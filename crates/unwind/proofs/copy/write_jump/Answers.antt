@@ -59,9 +59,6 @@ returns-then-i-t c =
 
 -- back, into the next copy
 
-pub next_place-goal-requires : goal.next_place-goal-requires
-next_place-goal-requires c = (target (goal.at.next_place-goal-requires c).After-two_at-t, c.if-copy.true)
-
 pub invariant_of-here-then-copy : goal.invariant_of-here-then-copy
 invariant_of-here-then-copy c = guard (goal.at.invariant_of-here-then-copy c).After-place
 
