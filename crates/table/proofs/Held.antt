@@ -26,18 +26,11 @@ pub record Held (T n : ℕ) (s : List ℕ) (at : ℕ) : Type 0 where
   pub instruction : Instr
   pub is : record_of (instr T n) (drop at s) ≡ Good instruction
   pub whole : at + (2 + number_of 2 (drop at s)) ≤ length s
-  pub kind-there : at + 2 < length s
   pub starts : expr_start (get_or s (at + 2) 0) ≤ 2 + number_of 2 (drop at s)
   pub parsed : parse Table (below T) (expr_part s at) ≡ Whole (expr_of instruction)
   pub acts : action_at s at ≡ action_of instruction
   pub symbols : (y : ℕ) → action_of instruction ≡ A.Assign y → y < T
-  pub assigns : get_or s (at + 2) 0 ≡ 1 → (instruction ≡ Assign (number_of 1 (drop (at + 3) s)) (expr_of instruction))
-      × (number_of 1 (drop (at + 3) s) < T) × (at + 4 ≤ length s)
-  pub jumps : get_or s (at + 2) 0 ≡ 4 → (instruction ≡ IfThenGoto (number_of 2 (drop (at + 3) s)) (expr_of instruction))
-      × (number_of 2 (drop (at + 3) s) ≤ n) × (at + 5 ≤ length s)
-  pub tests : (get_or s (at + 2) 0 ≡ 1 → ⊥) → (get_or s (at + 2) 0 ≡ 4 → ⊥)
-      → instruction ≡ Test (kind_of (get_or s (at + 2) 0)) (expr_of instruction)
-  pub kinds : (get_or s (at + 2) 0 ≡ 1 → ⊥) → (get_or s (at + 2) 0 ≡ 4 → ⊥) → (2 ≤ get_or s (at + 2) 0) × (get_or s (at + 2) 0 ≤ 3)
+  pub targets : (t : ℕ) → action_of instruction ≡ A.Goto t → t ≤ n
 
 module _ (T n : ℕ) (s : List ℕ) (at : ℕ) where
   module _ (x : Instr) (g : record_of (instr T n) (drop at s) ≡ Good x) where
@@ -62,9 +55,6 @@ module _ (T n : ℕ) (s : List ℕ) (at : ℕ) where
     placed k q e p =
         ap (λ m. parse Table (below T) (rest_of s at m)) q ∙ ap (parse Table (below T)) (sym (body-part (instr T n) s at x g k)) ∙ p
 
-    there : at + 2 < length s
-    there = omega (arith, inside, long, body_some (instr T n) s at x g)
-
     test : (k : Kind) (e : List Token) → (2 ≤ get_or s (at + 2) 0) × (get_or s (at + 2) 0 ≤ 3) → kind_of (get_or s (at + 2) 0) ≡ k
         → 1 ≤ length body
         → parse Table (below T) (drop 1 body) ≡ Whole e → record_of (instr T n) (drop at s) ≡ Good (Test k e) → Held T n s at
@@ -78,7 +68,6 @@ module _ (T n : ℕ) (s : List ℕ) (at : ℕ) where
           instruction = Test k e;
           is = g;
           whole = inside;
-          kind-there = there;
           starts = omega (arith, long);
           parsed = placed 1 q e p;
           acts =
@@ -87,10 +76,7 @@ module _ (T n : ℕ) (s : List ℕ) (at : ℕ) where
                 ne_eqb (get_or s (at + 2) 0) 4 (λ z. omega (arith, c.1)),
               ) (ap {B = Action} (λ k. A.Test k) d);
           symbols = λ y z. absurd (let x : ◌≡◌ {A = ℕ} 0 1 = cc in omega arith);
-          assigns = λ z. absurd (omega (arith, c.0));
-          jumps = λ z. absurd (omega (arith, c.1));
-          tests = λ y z. ap {B = Instr} (λ k. Test k e) (sym d);
-          kinds = λ y z. c;
+          targets = λ y z. absurd (let x : ◌≡◌ {A = ℕ} 0 1 = cc in omega arith);
         }
 
     held : (x : Instr) → record_of (instr T n) (drop at s) ≡ Good x → Says T n body x → Held T n s at
@@ -102,15 +88,11 @@ module _ (T n : ℕ) (s : List ℕ) (at : ℕ) where
           instruction = Assign (number_of 1 (drop 1 body)) e;
           is = g;
           whole = inside;
-          kind-there = there;
           starts = omega (arith, long);
           parsed = placed 2 q e p;
           acts = rw (eq-eqb (get_or s (at + 2) 0) 1 c) (ap {B = Action} (λ w. A.Assign w) (sym v));
           symbols = λ y z. subst (λ w. w < T) (let x : number_of 1 (drop 1 body) ≡ y = cc in x) m;
-          assigns = λ z. (ap {B = Instr} (λ w. Assign w e) v, subst (λ w. w < T) v m, omega (arith, h, long, inside));
-          jumps = λ z. absurd (omega arith);
-          tests = λ y z. absurd (y c);
-          kinds = λ y z. absurd (y c);
+          targets = λ y z. absurd (let x : ◌≡◌ {A = ℕ} 0 1 = cc in omega arith);
         }
     held x g (says_goto e k h m p) =
         let c : get_or s (at + 2) 0 ≡ 4 = sym kind ∙ k in
@@ -124,17 +106,13 @@ module _ (T n : ℕ) (s : List ℕ) (at : ℕ) where
           instruction = IfThenGoto (number_of 2 (drop 1 body)) e;
           is = g;
           whole = inside;
-          kind-there = there;
           starts = omega (arith, long);
           parsed = placed 3 q e p;
           acts =
               rw (ne_eqb (get_or s (at + 2) 0) 1 (λ z. omega arith), eq-eqb (get_or s (at + 2) 0) 4 c)
               (ap {B = Action} (λ w. A.Goto w) (sym v));
           symbols = λ y z. absurd (let x : ◌≡◌ {A = ℕ} 0 1 = cc in omega arith);
-          assigns = λ z. absurd (omega arith);
-          jumps = λ z. (ap {B = Instr} (λ w. IfThenGoto w e) v, subst (λ w. w ≤ n) v m, omega (arith, h, long, inside));
-          tests = λ y z. absurd (z c);
-          kinds = λ y z. absurd (z c);
+          targets = λ t z. subst (λ w. w ≤ n) (let x : number_of 2 (drop 1 body) ≡ t = cc in x) m;
         }
     held x g (says-assume e k h p) =
         let c : get_or s (at + 2) 0 ≡ 2 = sym kind ∙ k in

@@ -41,17 +41,17 @@ module _ {T n : ℕ} {s : List ℕ} {at : ℕ} (h : Held T n s at) where
   expr-value ρ q = ap (value_of ρ) (expr-whole q) ∙ value-whole ρ (expr_of h.instruction) ∙ sym (ap (λ b. value_in b ρ) h.is)
 
 -- the instruction, by what it does
-assign-is : (x : Instr) (y : ℕ) → action_of x ≡ A.Assign y → x ≡ Assign y (expr_of x)
+pub assign-is : (x : Instr) (y : ℕ) → action_of x ≡ A.Assign y → x ≡ Assign y (expr_of x)
 assign-is (Assign s e) y q = ap {B = Instr} (λ s. Assign s e) (let z : s ≡ y = cc in z)
 assign-is (Test k e) y q = absurd (let z : ◌≡◌ {A = ℕ} 0 1 = cc in omega arith)
 assign-is (IfThenGoto t e) y q = absurd (let z : ◌≡◌ {A = ℕ} 0 1 = cc in omega arith)
 
-test-is : (x : Instr) (k : Kind) → action_of x ≡ A.Test k → x ≡ Test k (expr_of x)
+pub test-is : (x : Instr) (k : Kind) → action_of x ≡ A.Test k → x ≡ Test k (expr_of x)
 test-is (Assign s e) k q = absurd (let z : ◌≡◌ {A = ℕ} 0 1 = cc in omega arith)
 test-is (Test j e) k q = ap {B = Instr} (λ j. Test j e) (let z : j ≡ k = cc in z)
 test-is (IfThenGoto t e) k q = absurd (let z : ◌≡◌ {A = ℕ} 0 1 = cc in omega arith)
 
-goto-is : (x : Instr) (t : ℕ) → action_of x ≡ A.Goto t → x ≡ IfThenGoto t (expr_of x)
+pub goto-is : (x : Instr) (t : ℕ) → action_of x ≡ A.Goto t → x ≡ IfThenGoto t (expr_of x)
 goto-is (Assign s e) t q = absurd (let z : ◌≡◌ {A = ℕ} 0 1 = cc in omega arith)
 goto-is (Test k e) t q = absurd (let z : ◌≡◌ {A = ℕ} 0 1 = cc in omega arith)
 goto-is (IfThenGoto s e) t q = ap {B = Instr} (λ s. IfThenGoto s e) (let z : s ≡ t = cc in z)

@@ -12,7 +12,7 @@ use Rattle.expr.specs.Lists.{All, drop-next}
 use Rattle.expr.specs.Number.{Byte}
 use Rattle.expr.specs.declared.token.Token.TheVariants.{Const, Symbol}
 use Rattle.file.specs.Outcome.{Bound}
-use Rattle.file.specs.File.{header_inputs, Body, record_of, record_bytes, records_bytes}
+use Rattle.file.specs.File.{header_inputs, Body, Good, record_of, record_bytes, records_bytes}
 use Rattle.file.proofs.EncodeLaws.{records-append}
 use Rattle.file.specs.Shown.{is_good, listed}
 use Rattle.table.specs.Table.{Instr, instr, read_table}
@@ -140,18 +140,22 @@ module _ {is : List Instr} {n K r : ℕ} {names₀ : List ℕ} {f₀ : Front} {o
 
 module _ (s off : List ℕ) (n : ℕ) (o : All Byte s) (ready : Ready s off n) {K r : ℕ} {names₀ : List ℕ} {f₀ : Front}
     {out₀ names out : List ℕ} {i : ℕ} {g : Front}
-    (v : InCopy (listed (read_table s)) n K r names₀ f₀ out₀ names out i g) (l : header_inputs s ≤ length names₀) (h : i < n) where
+    (v : InCopy (listed (read_table s)) n K r names₀ f₀ out₀ names out i g) (l : header_inputs s ≤ length names₀) (h : i < n)
+    (at : ℕ) (q : at ≡ get_or off i 0) where
   abbrev rec : Body Instr
-  rec = record_of (instr (length names) n) (drop (get_or off i 0) s)
+  rec = record_of (instr (length names) n) (drop at s)
 
   at_hand : A.At s off n (length names) i
   at_hand = A.instr-here s off n o ready (length names) (omega (arith, v.wide)) i h
 
+  good-here : rec ≡ Good at_hand.instruction
+  good-here = ap (λ at. record_of (instr (length names) n) (drop at s)) q ∙ at_hand.good
+
   place_here : place_of n K r i rec ≡ At (place_in n r i) (action_in n K r i at_hand.instruction)
-  place_here = ap (place_of n K r i) at_hand.good
+  place_here = ap (place_of n K r i) good-here
 
   pub readable : is_good rec ≡ true
-  readable = ap is_good at_hand.good
+  readable = ap is_good good-here
 
   pub room-here : f₀.to + length (bytes_at (newest_at names₀ f₀) (copy_from n K r 0 (listed (read_table s)))) ≤ length out₀
       → g.to + length (bytes_at (newest_at names g) (place_of n K r i rec ∷ [])) ≤ length out

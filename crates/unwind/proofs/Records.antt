@@ -1,12 +1,9 @@
 -- The records as the code writes them, part by part, are those of their statements; a record's length is written when its end is known.
-use Prim.Native.Nat.{ℕ, ◌+◌, ◌-◌, ◌≤◌}
+use Prim.Native.Nat.{ℕ, ◌+◌, ◌-◌}
 use native.Mathlib.Omega.{arith}
-use mathlib.Core.Path.{◌≡◌, refl, sym, ap, ◌∙◌}
-use mathlib.Core.Bool.{Bool, true, false, cond}
+use mathlib.Core.Path.{◌≡◌, refl, ap, ◌∙◌}
 use mathlib.Core.List.{List, [], ◌∷◌, ◌++◌, append_assoc, map-append}
 use lib.ListN.{length}
-use lib.Dec.{eqb}
-use borrow.Author.Tests.{eqb-true, eqb-false}
 use Rattle.expr.specs.declared.File.TheVariants.{Trace}
 use Rattle.expr.specs.Number.{bytes_of}
 use Rattle.expr.specs.declared.word.Unary.TheVariants.{Zero}
@@ -16,9 +13,8 @@ use Rattle.expr.specs.declared.token.Token.TheVariants.{Const, Symbol, Un, Bin, 
 use Rattle.expr.specs.Token.{token_bytes, expr_bytes}
 use Rattle.expr.specs.TokenLaws.{bytes-append}
 use Rattle.expr.specs.Eval.{rename_token, rename}
-use Rattle.file.specs.Outcome.{Assume, Assert, Bound}
+use Rattle.file.specs.Outcome.{Kind, Bound}
 use Rattle.file.specs.File.{record_bytes}
-use Rattle.file.specs.Shown.{kind_of}
 use Rattle.trace.specs.Trace.{Stmt, Assign, Test, kind_code, stmt_bytes}
 use Rattle.write.specs.Splice.{splice, Wrote}
 use Rattle.write.specs.SpliceLaws.{behind}
@@ -58,16 +54,9 @@ module _ (w j : ℕ) (e : List Token) where
       ∙ ap (λ bs. guard ++ bs) (append_assoc (expr_bytes Trace e) (expr_bytes Trace (Const goal ∷ Symbol w ∷ Ite ∷ []))
       (expr_bytes Trace (Symbol w ∷ Ite ∷ []))))
 
-  pub test-bytes : (kind : ℕ) → 2 ≤ kind → kind ≤ 3
-      → stmt_bytes (Test (kind_of kind) j (guarded w j e (Const 1))) ≡ (kind ∷ bytes_of 2 j)
+  pub test-bytes : (kind : Kind) → stmt_bytes (Test kind j (guarded w j e (Const 1))) ≡ (kind_code kind ∷ bytes_of 2 j)
       ++ (guard ++ (expr_bytes Trace e ++ expr_bytes Trace (Const 1 ∷ Ite ∷ [])))
-  test-bytes kind l h =
-      ap (λ k. (k ∷ bytes_of 2 j) ++ expr_bytes Trace (guarded w j e (Const 1))) (code (eqb kind 3) refl)
-      ∙ ap (λ bs. (kind ∷ bytes_of 2 j) ++ bs) (guarded-bytes w j e (Const 1))
-    where
-      code : (b : Bool) → eqb kind 3 ≡ b → kind_code (cond b Assert Assume) ≡ kind
-      code true q = sym (eqb-true kind 3 q)
-      code false q = let d : kind ≡ 3 → ⊥ = eqb-false kind 3 q in omega (arith, d)
+  test-bytes kind = ap (λ bs. (kind_code kind ∷ bytes_of 2 j) ++ bs) (guarded-bytes w j e (Const 1))
 
   pub bound-bytes : (f : ℕ → ℕ) → stmt_bytes (Test Bound j (guarded w j (rename f (e ++ Un Zero ∷ [])) (Const 1)))
       ≡ (4 ∷ bytes_of 2 j) ++ (guard ++ (expr_bytes Trace (rename f e) ++ ((0x12 ∷ []) ++ expr_bytes Trace (Const 1 ∷ Ite ∷ []))))

@@ -6,22 +6,26 @@ use native.Mathlib.Numerals.{add-one}
 use mathlib.Core.Path.{◌≡◌, refl, sym, ap, ap₂, ◌∙◌}
 use mathlib.Core.Bool.{Bool, true, false, cond, ◌&&◌}
 use mathlib.Core.List.{List, ◌∷◌}
+use mathlib.Core.Logic.{◌⊎◌, inl, inr}
 use lib.ListN.{length, drop, get_or, length-drop, drop_of_length-le}
 use lib.Seq.{drop-drop}
-use lib.Dec.{eqb, leb}
-use borrow.Author.Tests.{eqb-true, eqb-false, le-leb, lt-leb}
+use lib.Dec.{leb}
+use borrow.Author.Tests.{le-leb, lt-leb}
 use Rattle.expr.specs.declared.File.TheVariants.{Table}
 use Rattle.expr.specs.Lists.{All}
-use Rattle.expr.specs.Number.{Byte, number_of}
+use Rattle.expr.specs.Number.{Byte}
 use Rattle.expr.specs.Expr.{parse}
 use Rattle.expr.specs.Shown.{is_whole}
-use Rattle.file.specs.File.{input_room, Body, record_of}
-use Rattle.file.specs.Shown.{is_good, kind_of, listed}
+use Rattle.file.specs.File.{input_room, Body, Good, record_of}
+use Rattle.file.specs.Outcome.{Kind}
+use Rattle.file.specs.Shown.{is_good, listed}
 use Rattle.table.specs.Table.{Instr, Assign, Test, IfThenGoto, instr, read_table}
 use Rattle.file.proofs.RecordLaws.{rest-length}
-use Rattle.table.specs.Shown.{expr_start, expr_part, expr_of, Ready}
+use Rattle.table.specs.declared.read.Action.{Action}
+use Rattle.table.specs.declared.read.Action.TheVariants as A
+use Rattle.table.specs.Shown.{expr_start, expr_part, action_at, expr_of, Ready}
 use Rattle.table.proofs.Held.{Held}
-use Rattle.table.proofs.Moves.{expr-whole}
+use Rattle.table.proofs.Moves.{expr-whole, assign-is, test-is, goto-is}
 use Rattle.unwind.specs.Size.{expr_size, instr_size, copy_size}
 use Rattle.expr.specs.Shown.{tokens_of}
 use Rattle.unwind.specs.Shown.{known, size_in}
@@ -63,11 +67,24 @@ module _ {n : ℕ} {s : List ℕ} {at : ℕ} (h : Held input_room n s at) where
     by : (last : Bool) (x : Instr) → h.instruction ≡ x → size_in last i rec ≡ instr_size last i x
     by last x e = ap (size_in last i) h.is ∙ ap (instr_size last i) e
 
-    module _ (k : get_or s (at + 2) 0 ≡ 4) (t : ℕ) (q : t ≡ number_of 2 (drop (at + 3) s)) where
+    -- an Assign or a test
+    plain : (x : Instr) → h.instruction ≡ x → ((last : Bool) → instr_size last i x ≡ 20 + expr_size (expr_of h.instruction))
+        → AreSizes i rec (20 + size) (20 + size)
+    plain x e f = (is_size false, is_size true, omega (arith, m.little), omega (arith, m.little))
+      where
+        is_size : (last : Bool) → 20 + size ≡ size_in last i rec
+        is_size last = ap (λ z. 20 + z) m.is ∙ sym (by last x e ∙ f last)
+
+    pub no_jump : {a : Action} → a ≡ action_at s at → ((y : ℕ) × (a ≡ A.Assign y)) ⊎ ((k : Kind) × (a ≡ A.Test k))
+        → AreSizes i rec (20 + size) (20 + size)
+    no_jump p (inl (y, q)) = plain (Assign y (expr_of h.instruction)) (assign-is h.instruction y (sym h.acts ∙ sym p ∙ q)) (λ last. refl)
+    no_jump p (inr (k, q)) = plain (Test k (expr_of h.instruction)) (test-is h.instruction k (sym h.acts ∙ sym p ∙ q)) (λ last. refl)
+
+    module _ (t : ℕ) (a : action_at s at ≡ A.Goto t) where
       goto_size : (last : Bool) → cond (last && leb t i) 21 29 + size ≡ size_in last i rec
       goto_size last =
-          ap₂ (λ t z. cond (last && leb t i) 21 29 + z) q m.is
-          ∙ sym (by last (IfThenGoto (number_of 2 (drop (at + 3) s)) (expr_of h.instruction)) (h.jumps k).0)
+          ap (λ z. cond (last && leb t i) 21 29 + z) m.is
+          ∙ sym (by last (IfThenGoto t (expr_of h.instruction)) (goto-is h.instruction t (sym h.acts ∙ a)))
 
       pub jumps-on : i < t → AreSizes i rec (29 + size) (29 + size)
       jumps-on j = (
@@ -86,18 +103,6 @@ module _ {n : ℕ} {s : List ℕ} {at : ℕ} (h : Held input_room n s at) where
         omega (arith, m.little),
         omega (arith, m.little),
       )
-
-    pub no_jump : (get_or s (at + 2) 0 ≡ 4 → ⊥) → AreSizes i rec (20 + size) (20 + size)
-    no_jump k = (other-size false, other-size true, omega (arith, m.little), omega (arith, m.little))
-      where
-        by_code : (last b : Bool) → eqb (get_or s (at + 2) 0) 1 ≡ b → size_in last i rec ≡ 20 + expr_size (expr_of h.instruction)
-        by_code last true e =
-            by last (Assign (number_of 1 (drop (at + 3) s)) (expr_of h.instruction)) (h.assigns (eqb-true (get_or s (at + 2) 0) 1 e)).0
-        by_code last false e =
-            by last (Test (kind_of (get_or s (at + 2) 0)) (expr_of h.instruction)) (h.tests (eqb-false (get_or s (at + 2) 0) 1 e) k)
-
-        other-size : (last : Bool) → 20 + size ≡ size_in last i rec
-        other-size last = ap (λ z. 20 + z) m.is ∙ sym (by_code last (eqb (get_or s (at + 2) 0) 1) refl)
 
 -- ---- a copy
 
@@ -134,15 +139,19 @@ module _ (s off : List ℕ) (n : ℕ) (o : All Byte s) (r : Ready s off n) where
   at_hand : (i : ℕ) → i < n → At s off n input_room i
   at_hand i h = instr-here s off n o r input_room (few-inputs s off n o r) i h
 
-  pub readable : (i : ℕ) → i < n → is_good (record_of (instr input_room n) (drop (get_or off i 0) s)) ≡ true
-  readable i h = ap is_good (at_hand i h).good
+  good-at : (i : ℕ) (h : i < n) (at : ℕ) → at ≡ get_or off i 0
+      → record_of (instr input_room n) (drop at s) ≡ Good (at_hand i h).instruction
+  good-at i h at p = ap (λ at. record_of (instr input_room n) (drop at s)) p ∙ (at_hand i h).good
 
-  pub record-on : (last : Bool) (i sum size : ℕ) → i < n → Summing last is i sum
-      → size ≡ size_in last i (record_of (instr input_room n) (drop (get_or off i 0) s)) → size ≤ 131200
+  pub readable : (i : ℕ) → i < n → (at : ℕ) → at ≡ get_or off i 0 → is_good (record_of (instr input_room n) (drop at s)) ≡ true
+  readable i h at p = ap is_good (good-at i h at p)
+
+  pub record-on : (last : Bool) (i sum size : ℕ) → i < n → Summing last is i sum → (at : ℕ) → at ≡ get_or off i 0
+      → size ≡ size_in last i (record_of (instr input_room n) (drop at s)) → size ≤ 131200
       → Summing last is (i + 1) (sum + size)
-  record-on last i sum size h v q =
+  record-on last i sum size h v at p q =
       let x = at_hand i h in
-      sum-on v x.instruction x.after x.is-here size (q ∙ ap (size_in last i) x.good)
+      sum-on v x.instruction x.after x.is-here size (q ∙ ap (size_in last i) (good-at i h at p))
 
   pub copy_summed : {last : Bool} {i sum : ℕ} → Summing last is i sum → n ≤ i → (sum ≡ copy_size last 0 is) × (sum ≤ 134348825)
   copy_summed v h =

@@ -1,5 +1,5 @@
 -- What the code's values mean: its answers as functions of the definitions.
-use Rattle.std.specs.Prelude.{ℕ, ◌≡◌, Bool, List, [], length, get_or}
+use Rattle.std.specs.Prelude.{ℕ, ◌≡◌, Bool, List, length, get_or}
 use Rattle.expr.specs.declared.File.TheVariants.{Table}
 use Rattle.expr.specs.declared.token.Token.{Token}
 use Rattle.expr.specs.Expr.{below, parse}

@@ -1,5 +1,5 @@
 // The copies of a table's instructions, each with its exit, as the records of a trace.
-ghost use Rattle.std.specs.Prelude.{◌≡◌, true, [], ◌∷◌, ◌+◌, ◌*◌, ◌≤◌, ◌<◌, length, drop, get_or};
+ghost use Rattle.std.specs.Prelude.{◌≡◌, true, [], ◌∷◌, ◌+◌, ◌*◌, ◌≤◌, ◌<◌, length, drop};
 ghost use Rattle.file.specs.Outcome.{Bound};
 ghost use Rattle.file.specs.File.{header_inputs, record_of, records_bytes};
 ghost use Rattle.file.specs.Shown.{is_good, listed};
@@ -7,14 +7,14 @@ ghost use Rattle.table.specs.Table.{instr, read_table};
 ghost use Rattle.table.specs.Shown.{Ready};
 ghost use Rattle.trace.specs.Trace.{stmt_bytes};
 ghost use Rattle.write.specs.Splice.{Wrote};
-ghost use Rattle.unwind.specs.Places.{copy_from, places};
+ghost use Rattle.unwind.specs.Places.{At, jump_in, copy_from, places};
 ghost use Rattle.unwind.specs.Unwind.{statements};
-ghost use Rattle.unwind.specs.Shown.{newest_of, place_of, Written};
+ghost use Rattle.unwind.specs.Shown.{newest_of, place_of, tokens_in, Written};
 
 use super::record;
 use super::record::Guarded;
-use expr::number;
 use table::read;
+use table::read::Action;
 
 // How far the writing has come: the newest symbol of control, the next new symbol, and the next place of the buffer.
 #[derive(Clone, Copy)]
@@ -93,33 +93,16 @@ impl Round {
     }
 }
 
-// The jump of instruction i, whose record stands at a place of the table.
-fn write_jump(
-    table: &[u8],
-    at: usize,
-    copy: Round,
-    i: usize,
-    names: &[u16],
-    f: Front,
-    out: &mut [u8],
-) -> Front
-    requires { (at < 65536) × (i < copy.n) × (f.next < 65535)
-        × (is_good (record_of (instr (length names.now) copy.n) (drop at table.now)) ≡ true)
+// The jump of instruction i to instruction t, where its expression counts.
+fn write_jump(here: Guarded, copy: Round, i: usize, t: usize, f: Front, out: &mut [u8]) -> Front
+    requires { (here.control ≡ f.control) × (t ≤ copy.n) × (f.next < 65535)
         × (f.to + length (records_bytes stmt_bytes
-        (statements Bound (newest_of names.now f.control f.next)
-        (place_of copy.n copy.bound copy.r i (record_of (instr (length names.now) copy.n) (drop at table.now)) ∷ []))) ≤ length out.old)
-        × (get_or table.now (at + 2) 0 ≡ 4) }
-    ensures { Written (newest_of names.now f.control f.next)
-        (place_of copy.n copy.bound copy.r i (record_of (instr (length names.now) copy.n) (drop at table.now)) ∷ []) out.old
-        f.to out.new names.now result }
+        (statements Bound (newest_of here.names.now here.control f.next)
+        (At here.place (jump_in copy.n copy.bound copy.r i t (tokens_in here.names.now here.expr.now)) ∷ []))) ≤ length out.old) }
+    ensures { Written (newest_of here.entry.names.now here.entry.control f.next)
+        (At here.entry.place (jump_in copy.n copy.bound copy.r i t (tokens_in here.entry.names.now here.entry.expr.now)) ∷ []) out.old
+        f.to out.new here.entry.names.now result }
 {
-    let here = Guarded {
-        expr: read::expr_at(table, at),
-        names,
-        control: f.control,
-        place: copy.place(i),
-    };
-    let t = number::two_at(table, at + 3);
     if i < t {
         let goal = copy.place(t);
         let to = here.put_jump(f.next, goal, out, f.to);
@@ -144,7 +127,7 @@ fn write_place(
     f: Front,
     out: &mut [u8],
 ) -> Front
-    requires { (at < 65536) × (i < copy.n) × (f.next < 65535)
+    requires { (i < copy.n) × (f.next < 65535)
         × (is_good (record_of (instr (length names.old) copy.n) (drop at table.now)) ≡ true)
         × (f.to + length (records_bytes stmt_bytes
         (statements Bound (newest_of names.old f.control f.next)
@@ -153,25 +136,26 @@ fn write_place(
         (place_of copy.n copy.bound copy.r i (record_of (instr (length names.old) copy.n) (drop at table.now)) ∷ []) out.old
         f.to out.new names.new result }
 {
-    let kind = table[at + 2];
-    if kind == 4 {
-        return write_jump(table, at, copy, i, &*names, f, out);
-    }
+    let instr = read::instr_at(table, at);
     let here = Guarded {
-        expr: read::expr_at(table, at),
+        expr: instr.expr,
         names: &*names,
         control: f.control,
         place: copy.place(i),
     };
-    if kind == 1 {
-        let symbol = number::byte_at(table, at + 3);
-        let old = here.names[symbol] as usize;
-        let to = here.put_assign(f.next, old, out, f.to);
-        names[symbol] = f.next as u16;
-        return f.assigned(to);
+    match instr.action {
+        Action::Assign(symbol) => {
+            let old = usize::from(here.names[symbol]);
+            let to = here.put_assign(f.next, old, out, f.to);
+            names[symbol] = f.next as u16;
+            f.assigned(to)
+        }
+        Action::Test(kind) => {
+            let to = here.put_test(kind, out, f.to);
+            f.tested(to)
+        }
+        Action::Goto(target) => write_jump(here, copy, i, target, f, out),
     }
-    let to = here.put_test(kind, out, f.to);
-    f.tested(to)
 }
 
 // Copy r, and its exit.
@@ -201,7 +185,7 @@ fn write_copy(
     };
     let mut g = f;
     for (i, &at) in offsets.iter().enumerate() {
-        g = write_place(table, at as usize, copy, i, &mut *names, g, &mut *out);
+        g = write_place(table, usize::from(at), copy, i, &mut *names, g, &mut *out);
     }
     let to = record::put_exit(g.control, copy.place(copy.n), g.next, copy.end(), out, g.to);
     g.moved(to)

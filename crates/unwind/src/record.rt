@@ -10,9 +10,8 @@ ghost use Rattle.expr.specs.Expr.{below, parse};
 ghost use Rattle.expr.specs.Eval.{rename};
 ghost use Rattle.expr.specs.Shown.{is_whole};
 ghost use Rattle.file.specs.File.{record_bytes};
-ghost use Rattle.file.specs.Shown.{kind_of};
 ghost use Rattle.file.specs.Outcome.{Bound};
-ghost use Rattle.trace.specs.Trace.{Assign, Test, stmt_bytes};
+ghost use Rattle.trace.specs.Trace.{Assign, Test, kind_code, stmt_bytes};
 ghost use Rattle.write.specs.Splice.{splice, Wrote};
 ghost use Rattle.unwind.specs.Unwind.{guarded, opening};
 ghost use Rattle.unwind.specs.Size.{expr_size};
@@ -21,23 +20,32 @@ ghost use Rattle.unwind.specs.Shown.{current_of, tokens_in, renamed};
 use super::tokens;
 use expr::token;
 use expr::word::{Binary, Unary};
+use file::Kind;
 
-// The kind and the place, after two bytes for the record's length.
-fn open_test(kind: u8, j: usize, out: &mut [u8], at: usize) -> usize
-    requires { at + 5 ≤ length out.old }
-    ensures { Wrote out.old (at + 2) (kind ∷ bytes_of 2 j) out.new result }
+// The number that a test's kind has in a trace.
+fn code_of(kind: Kind) -> u8
+    ensures { result ≡ kind_code kind }
 {
-    let a = write::put_byte(kind, out, at + 2);
+    kind as u8
+}
+
+// A test's kind and its place, after two bytes for the record's length.
+fn open_test(kind: Kind, j: usize, out: &mut [u8], at: usize) -> usize
+    requires { at + 5 ≤ length out.old }
+    ensures { Wrote out.old (at + 2) (kind_code kind ∷ bytes_of 2 j) out.new result }
+{
+    let a = write::put_byte(code_of(kind), out, at + 2);
     write::put_two(j, out, a)
 }
 
-// The kind, the place and the assigned symbol.
+// An Assign's kind, its place and the assigned symbol, after two bytes for the record's length.
 fn open_assign(j: usize, symbol: usize, out: &mut [u8], at: usize) -> usize
     requires { at + 7 ≤ length out.old }
     ensures { Wrote out.old (at + 2) (1 ∷ bytes_of 2 j ++ bytes_of 2 symbol) out.new result }
 {
-    let a = open_test(1, j, out, at);
-    write::put_two(symbol, out, a)
+    let a = write::put_byte(1, out, at + 2);
+    let b = write::put_two(j, out, a);
+    write::put_two(symbol, out, b)
 }
 
 // The length of the record that was written from `at` up to `end`.
@@ -114,11 +122,11 @@ impl<'a> Guarded<'a> {
         close(out, at, d)
     }
 
-    // An Assume or an Assert.
-    pub fn put_test(self, kind: u8, out: &mut [u8], at: usize) -> usize
-        requires { (at + (20 + expr_size (tokens_in self.names.now self.expr.now)) ≤ length out.old) × (2 ≤ kind) × (kind ≤ 3) }
+    // A test of the table.
+    pub fn put_test(self, kind: Kind, out: &mut [u8], at: usize) -> usize
+        requires { at + (20 + expr_size (tokens_in self.names.now self.expr.now)) ≤ length out.old }
         ensures { Wrote out.old at
-            (record_bytes stmt_bytes (Test (kind_of kind) self.entry.place
+            (record_bytes stmt_bytes (Test kind self.entry.place
             (guarded self.entry.control self.entry.place (renamed self.entry.names.now self.entry.expr.now) (Const 1)))) out.new result }
     {
         let a = open_test(kind, self.place, out, at);
@@ -155,7 +163,7 @@ impl<'a> Guarded<'a> {
             (rename (current_of self.entry.names.now) (tokens_in self.entry.names.now self.entry.expr.now ++ Un Zero ∷ []))
             (Const 1)))) out.new result }
     {
-        let a = open_test(4, self.place, out, at);
+        let a = open_test(Kind::Bound, self.place, out, at);
         let b = put_guard(self.control, self.place, out, a);
         let c = tokens::put_tokens(self.expr, self.names, out, b);
         let d = write::put_byte(Unary::Zero.code(), out, c);

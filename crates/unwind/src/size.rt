@@ -8,8 +8,8 @@ ghost use Rattle.unwind.specs.Size.{copy_size, trace_size};
 ghost use Rattle.unwind.specs.Shown.{size_in};
 
 use super::tokens;
-use expr::number;
 use table::read;
+use table::read::Action;
 
 // The bytes of an instruction or of a whole copy, in the copies before the last one and in the last one.
 #[derive(Clone, Copy)]
@@ -20,28 +20,26 @@ struct Sizes {
 
 // The record of instruction i, which stands at a place of the table.
 fn instr_sizes(table: &[u8], at: usize, n: usize, i: usize) -> Sizes
-    requires { (at < 65536) × (length table.now < 65536) × (is_good (record_of (instr input_room n) (drop at table.now)) ≡ true) }
+    requires { (length table.now < 65536) × (is_good (record_of (instr input_room n) (drop at table.now)) ≡ true) }
     ensures { (result.early ≡ size_in false i (record_of (instr input_room n) (drop at table.now)))
         × (result.last ≡ size_in true i (record_of (instr input_room n) (drop at table.now))) × (result.early ≤ 131200)
         × (result.last ≤ 131200) }
 {
-    let kind = table[at + 2];
-    let size = tokens::expr_size(read::expr_at(table, at));
-    if kind == 4 {
-        if i < number::two_at(table, at + 3) {
-            return Sizes {
-                early: 29 + size,
-                last: 29 + size,
-            };
-        }
-        return Sizes {
+    let instr = read::instr_at(table, at);
+    let size = tokens::expr_size(instr.expr);
+    match instr.action {
+        Action::Goto(target) if target <= i => Sizes {
             early: 29 + size,
             last: 21 + size,
-        };
-    }
-    Sizes {
-        early: 20 + size,
-        last: 20 + size,
+        },
+        Action::Goto(_) => Sizes {
+            early: 29 + size,
+            last: 29 + size,
+        },
+        Action::Assign(_) | Action::Test(_) => Sizes {
+            early: 20 + size,
+            last: 20 + size,
+        },
     }
 }
 
@@ -56,7 +54,7 @@ fn copy_sizes(table: &[u8], offsets: &[u16]) -> Sizes
         last: 25,
     };
     for (i, &at) in offsets.iter().enumerate() {
-        let s = instr_sizes(table, at as usize, offsets.len(), i);
+        let s = instr_sizes(table, usize::from(at), offsets.len(), i);
         sum.early += s.early;
         sum.last += s.last;
     }

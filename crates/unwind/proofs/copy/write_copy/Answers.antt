@@ -34,19 +34,17 @@ write_place-g-requires c =
     let v = c.loop-i.invariant in
     let h = c.loop-i-test.true in
     let o = bytes (goal.at.write_place-g-requires c).After-shared_slice_known-1 in (
-      c.type_inv.at.fits,
       h,
       omega (arith, v.fresh, pre.2),
-      readable _ _ _ o pre.3 v pre.4 h,
-      room-here _ _ _ o pre.3 v pre.4 h pre.5,
+      readable _ _ _ o pre.3 v pre.4 h _ c.from.ensures,
+      room-here _ _ _ o pre.3 v pre.4 h _ c.from.ensures pre.5,
     )
 
 pub loop-i-preserved : goal.loop-i-preserved
 loop-i-preserved c =
     let pre = c.requires in
-    place-on _ _ _ (bytes (goal.at.loop-i-preserved c).After-shared_slice_known-1) pre.3 c.loop-i.invariant pre.4 c.loop-i-test.true _ _ _
-    c.write_place-g.auto.names
-    c.write_place-g.ensures
+    place-on _ _ _ (bytes (goal.at.loop-i-preserved c).After-shared_slice_known-1) pre.3 c.loop-i.invariant pre.4 c.loop-i-test.true _
+    c.from.ensures _ _ _ c.write_place-g.auto.names c.write_place-g.ensures
 
 pub invariant_of-copy-2 : goal.invariant_of-copy-2
 invariant_of-copy-2 c = bounds (goal.at.invariant_of-copy-2 c).After-shared_slice_known-1

@@ -1,88 +1,103 @@
--- A jump, an Assign or a test: each `return` cites the law of its way (`proofs/Writing.antt`).
+-- An Assign, a test or a jump: each arm cites the law of its action (`proofs/Writing.antt`).
 use Prim.Native.Nat.{◌<◌}
 use native.Mathlib.Omega.{arith}
-use mathlib.Core.Path.{◌≡◌}
+use mathlib.Core.Path.{◌≡◌, sym, refl, ◌∙◌}
 use mathlib.Core.Bool.{true}
 use lib.ListN.{length}
 use Rattle.expr.specs.declared.File.TheVariants.{Table}
 use Rattle.expr.specs.Expr.{below, parse}
 use Rattle.expr.specs.Shown.{is_whole}
 use Rattle.table.proofs.Held.{Held, held_at}
-use Rattle.unwind.proofs.Writing.{part-whole, assign-room, assign-written, test-room, test-written}
+use Rattle.unwind.proofs.Writing.{part-whole, assign-room, assign-written, test-room, test-written, jump-room, jump-written}
 use Rattle.unwind.proofs.copy.write_place.Goals as goal
-use Rattle.unwind.proofs.copy.write_place.Goals.{After-place, After-byte_at-symbol, Start}
+use Rattle.unwind.proofs.copy.write_place.Goals.{After-place, Start, In-Assign}
 
 held : (c : Start) → Held (length c.args.names.now) c.args.copy.n c.args.table.now c.args.at
-held c = held_at _ _ _ _ c.requires.3
+held c = held_at _ _ _ _ c.requires.2
 
 guard : (c : After-place) → record {
-  whole : is_whole (parse Table (below (length c.args.names.now)) c.expr_at.result.now) ≡ true;
+  whole : is_whole (parse Table (below (length c.args.names.now)) c.instr_at-instr.result.expr.now) ≡ true;
   small : c.place.result < 4294967296;
 }
 guard c = record {
   whole =
       part-whole c.args.names.now (held (goal.at.After-place c).Start) c.args.copy.bound c.args.copy.r c.args.i c.args.f.control
-      c.args.f.next _ c.expr_at.ensures;
+      c.args.f.next _ c.instr_at-instr.ensures.1 _ c.place.ensures.0;
   small = omega (arith, c.place.ensures.1);
 }
 
-inside : (c : After-byte_at-symbol) → c.byte_at-symbol.result < length c.args.names.now
+inside : (c : In-Assign) → c.in-Assign.symbol < length c.args.names.now
 inside c =
-    omega (
-      arith,
-      ((held (goal.at.After-byte_at-symbol c).Start).assigns c.if-kind-eq1.true).1,
-      c.byte_at-symbol.ensures.0,
-    )
+    let h = held (goal.at.In-Assign c).Start in
+    h.symbols c.in-Assign.symbol (sym h.acts ∙ sym c.instr_at-instr.ensures.0 ∙ c.in-Assign.is)
 
-pub bounds-table-at : goal.bounds-table-at
-bounds-table-at c = (held (goal.at.bounds-table-at c).Start).kind-there
-
-pub expr_at-requires : goal.expr_at-requires
-expr_at-requires c = let h = held (goal.at.expr_at-requires c).Start in (h.whole, h.starts)
+pub instr_at-instr-requires : goal.instr_at-instr-requires
+instr_at-instr-requires c = let h = held (goal.at.instr_at-instr-requires c).Start in (h.whole, h.starts)
 
 -- an Assign
-
-pub byte_at-symbol-requires : goal.byte_at-symbol-requires
-byte_at-symbol-requires c = omega (arith, ((held (goal.at.byte_at-symbol-requires c).Start).assigns c.if-kind-eq1.true).2)
 
 pub invariant_of-here : goal.invariant_of-here
 invariant_of-here c = guard (goal.at.invariant_of-here c).After-place
 
+pub offset_bounds-here-symbol : goal.offset_bounds-here-symbol
+offset_bounds-here-symbol c = omega (arith, inside c)
+
+pub bounds-here-symbol : goal.bounds-here-symbol
+bounds-here-symbol c = inside (goal.at.bounds-here-symbol c).In-Assign
+
 pub put_assign-to-requires : goal.put_assign-to-requires
 put_assign-to-requires c =
     assign-room c.args.names.now (held (goal.at.put_assign-to-requires c).Start) c.args.copy.bound c.args.copy.r c.args.i c.args.f.control
-    c.args.f.next _ c.expr_at.ensures c.if-kind-eq1.true _ _ c.requires.4
+    c.args.f.next _ c.instr_at-instr.ensures.1 _ c.place.ensures.0 _ (sym c.instr_at-instr.ensures.0 ∙ c.in-Assign.is) _ _ c.requires.3
 
-pub bounds-here-symbol : goal.bounds-here-symbol
-bounds-here-symbol c = inside (goal.at.bounds-here-symbol c).After-byte_at-symbol
+pub offset_bounds-names-symbol : goal.offset_bounds-names-symbol
+offset_bounds-names-symbol c = omega (arith, inside (goal.at.offset_bounds-names-symbol c).In-Assign)
 
 pub bounds-names-symbol : goal.bounds-names-symbol
-bounds-names-symbol c = inside (goal.at.bounds-names-symbol c).After-byte_at-symbol
+bounds-names-symbol c = inside (goal.at.bounds-names-symbol c).In-Assign
 
-pub returns-then-kind-eq1 : goal.returns-then-kind-eq1
-returns-then-kind-eq1 c =
+pub returns-in-Assign : goal.returns-in-Assign
+returns-in-Assign c =
     rw c.assigned.ensures
-    (assign-written c.args.names.now (held (goal.at.returns-then-kind-eq1 c).Start) c.args.copy.bound c.args.copy.r c.args.i
-    c.args.f.control c.args.f.next _ c.expr_at.ensures c.if-kind-eq1.true _ c.byte_at-symbol.result c.place.ensures.0
-    c.byte_at-symbol.ensures.0 c.put_assign-to.ensures)
+    (assign-written c.args.names.now (held (goal.at.returns-in-Assign c).Start) c.args.copy.bound c.args.copy.r c.args.i c.args.f.control
+    c.args.f.next _ c.instr_at-instr.ensures.1 _ c.place.ensures.0 _ (sym c.instr_at-instr.ensures.0 ∙ c.in-Assign.is)
+    _ c.from-old.ensures c.put_assign-to.ensures)
 
--- an Assume or an Assert
+-- a test
 
-pub invariant_of-here-2 : goal.invariant_of-here-2
-invariant_of-here-2 c = guard (goal.at.invariant_of-here-2 c).After-place
+pub invariant_of-here-in-Test : goal.invariant_of-here-in-Test
+invariant_of-here-in-Test c = guard (goal.at.invariant_of-here-in-Test c).After-place
 
 pub put_test-to-requires : goal.put_test-to-requires
 put_test-to-requires c =
-    let h = held (goal.at.put_test-to-requires c).Start in
-    let k = h.kinds c.if-kind-eq1.false c.if-kind-eq4.false in (
-      test-room c.args.names.now h c.args.copy.bound c.args.copy.r c.args.i c.args.f.control c.args.f.next _ c.expr_at.ensures
-          c.if-kind-eq1.false c.if-kind-eq4.false _ _ c.requires.4,
-      k.0,
-      k.1,
+    test-room c.args.names.now (held (goal.at.put_test-to-requires c).Start) c.args.copy.bound c.args.copy.r c.args.i c.args.f.control
+    c.args.f.next _ c.instr_at-instr.ensures.1 _ c.place.ensures.0 _ (sym c.instr_at-instr.ensures.0 ∙ c.in-Test.is) _ _ c.requires.3
+
+pub returns-in-Test : goal.returns-in-Test
+returns-in-Test c =
+    rw c.tested.ensures
+    (test-written c.args.names.now (held (goal.at.returns-in-Test c).Start) c.args.copy.bound c.args.copy.r c.args.i c.args.f.control
+    c.args.f.next _ c.instr_at-instr.ensures.1 _ c.place.ensures.0 _ (sym c.instr_at-instr.ensures.0 ∙ c.in-Test.is)
+    c.put_test-to.ensures)
+
+-- a jump
+
+pub invariant_of-here-in-Goto : goal.invariant_of-here-in-Goto
+invariant_of-here-in-Goto c = guard (goal.at.invariant_of-here-in-Goto c).After-place
+
+pub write_jump-requires : goal.write_jump-requires
+write_jump-requires c =
+    let h = held (goal.at.write_jump-requires c).Start in
+    let acts = sym c.instr_at-instr.ensures.0 ∙ c.in-Goto.is in (
+      refl,
+      h.targets c.in-Goto.target (sym h.acts ∙ acts),
+      c.requires.1,
+      jump-room c.args.names.now h c.args.copy.bound c.args.copy.r c.args.i c.args.f.control c.args.f.next _ c.instr_at-instr.ensures.1
+          _ c.place.ensures.0 _ acts _ _ c.requires.3,
     )
 
-pub returns : goal.returns
-returns c =
-    rw c.tested.ensures
-    (test-written c.args.names.now (held (goal.at.returns c).Start) c.args.copy.bound c.args.copy.r c.args.i c.args.f.control
-    c.args.f.next _ c.expr_at.ensures c.if-kind-eq1.false c.if-kind-eq4.false _ c.place.ensures.0 c.put_test-to.ensures)
+pub returns-in-Goto : goal.returns-in-Goto
+returns-in-Goto c =
+    jump-written c.args.names.now (held (goal.at.returns-in-Goto c).Start) c.args.copy.bound c.args.copy.r c.args.i c.args.f.control
+    c.args.f.next _ c.instr_at-instr.ensures.1 _ c.place.ensures.0 _ (sym c.instr_at-instr.ensures.0 ∙ c.in-Goto.is)
+    c.write_jump.ensures

@@ -1,5 +1,8 @@
-use Rattle.write.specs.SpliceLaws.{◌then◌}
+use Prim.Native.Nat.{ℕ}
+use mathlib.Core.Path.{ap}
+use mathlib.Core.List.{List, [], ◌∷◌}
+use Rattle.write.specs.SpliceLaws.{◌then◌, wrote_as}
 use Rattle.unwind.proofs.record.open_test.Goals as goal
 
 pub returns : goal.returns
-returns c = c.put_byte-a.ensures then c.put_two.ensures
+returns c = wrote_as (ap {B = List ℕ} (λ b. b ∷ []) c.code_of.ensures) c.put_byte-a.ensures then c.put_two.ensures

@@ -13,11 +13,10 @@ bytes c = all-at Byte c.args.table.now (λ i h. (c.shared_slice_known-1.given i)
 pub instr_sizes-s-requires : goal.instr_sizes-s-requires
 instr_sizes-s-requires c =
     let place = (goal.at.instr_sizes-s-requires c).After-shared_slice_known-1 in (
-      c.type_inv.at.fits,
       small _ _ _ (bytes place)
           c.requires,
       readable _ _ _ (bytes place)
-          c.requires _ c.loop-i-test.true,
+          c.requires _ c.loop-i-test.true _ c.from.ensures,
     )
 
 pub overflow_add-sum : goal.overflow_add-sum
@@ -47,10 +46,10 @@ loop-i-preserved c =
     let s = c.instr_sizes-s.ensures in
     let on = record-on _ _ _ (bytes (goal.at.loop-i-preserved c).After-shared_slice_known-1)
     c.requires in (
-      on false _ _ _ c.loop-i-test.true c.loop-i.invariant.0 s.0
+      on false _ _ _ c.loop-i-test.true c.loop-i.invariant.0 _ c.from.ensures s.0
           s.2,
       on true _ _ _ c.loop-i-test.true
-          c.loop-i.invariant.1 s.1 s.3,
+          c.loop-i.invariant.1 _ c.from.ensures s.1 s.3,
     )
 
 pub returns : goal.returns

@@ -4,7 +4,6 @@ use lib.ListN.{length}
 use Rattle.expr.specs.declared.File.TheVariants.{Trace}
 use Rattle.expr.specs.declared.token.Token.TheVariants.{Const}
 use Rattle.expr.specs.Token.{expr_bytes}
-use Rattle.file.specs.Shown.{kind_of}
 use Rattle.trace.specs.Trace.{Test}
 use Rattle.write.specs.SpliceLaws.{◌then◌}
 use Rattle.unwind.specs.Unwind.{guarded}
@@ -31,6 +30,6 @@ pub returns : goal.returns
 returns c =
     let a = c.args in
     let g = a.self in
-    closes (Test (kind_of a.kind) g.place (guarded g.control g.place (renamed g.names.now g.expr.now) (Const 1)))
+    closes (Test a.kind g.place (guarded g.control g.place (renamed g.names.now g.expr.now) (Const 1)))
     (c.open_test-a.ensures then c.put_guard-b.ensures then c.put_tokens-c.ensures then c.put_holds-d.ensures)
-    (test-bytes g.control g.place (renamed g.names.now g.expr.now) a.kind c.requires.1 c.requires.2) c.close.ensures
+    (test-bytes g.control g.place (renamed g.names.now g.expr.now) a.kind) c.close.ensures
