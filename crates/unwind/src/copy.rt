@@ -93,7 +93,7 @@ impl Round {
     }
 }
 
-// The jump of instruction i to instruction t, where its expression counts.
+// The jump of instruction i to instruction t, with its condition and its place in the copy.
 fn write_jump(here: Guarded, copy: Round, i: usize, t: usize, f: Front, out: &mut [u8]) -> Front
     requires { (here.control ≡ f.control) × (t ≤ copy.n) × (f.next < 65535)
         × (f.to + length (records_bytes stmt_bytes
