@@ -4,7 +4,7 @@ use native.Mathlib.Omega.{arith}
 use mathlib.Core.Path.{◌≡◌, sym, ◌∙◌}
 use mathlib.Core.List.{List, [], ◌∷◌}
 use lib.ListN.{length, drop, get_or}
-use Rattle.expr.specs.Lists.{All}
+use Rattle.expr.specs.Lists.{All, all-at}
 use Rattle.expr.specs.Number.{Byte}
 use Rattle.file.specs.File.{input_room, header_size, header_inputs, head_of, header_reply, Good, record_of}
 use Rattle.file.specs.Shown.{listed}
@@ -14,6 +14,11 @@ use Rattle.table.specs.Table.{Instr, instr, instrs, is_table, read_table}
 use Rattle.table.specs.TableLaws.{InstrOk}
 use Rattle.table.specs.Shown.{Ready}
 use Rattle.table.proofs.Running.{Loaded, loaded, here}
+use Rattle.unwind.specs.declared.source.Source.{Source}
+
+-- its numbers are bytes
+pub bytes : (source : Source) → All Byte source.table.now
+bytes source = all-at Byte source.table.now (λ i h. source.bytes i)
 
 -- the instruction i, in a table of at most T symbols
 pub record At (s off : List ℕ) (n T i : ℕ) : Type 0 where

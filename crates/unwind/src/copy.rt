@@ -4,7 +4,6 @@ ghost use Rattle.file.specs.Outcome.{Bound};
 ghost use Rattle.file.specs.File.{header_inputs, record_of, records_bytes};
 ghost use Rattle.file.specs.Shown.{is_good, listed};
 ghost use Rattle.table.specs.Table.{instr, read_table};
-ghost use Rattle.table.specs.Shown.{Ready};
 ghost use Rattle.trace.specs.Trace.{stmt_bytes};
 ghost use Rattle.write.specs.Splice.{Wrote};
 ghost use Rattle.unwind.specs.Places.{At, jump_in, copy_from, places};
@@ -13,6 +12,7 @@ ghost use Rattle.unwind.specs.Shown.{newest_of, place_of, tokens_in, Written};
 
 use super::record;
 use super::record::Guarded;
+use super::source::Source;
 use table::read;
 use table::read::Action;
 
@@ -93,7 +93,7 @@ impl Round {
     }
 }
 
-// The jump of instruction i to instruction t, where its expression counts.
+// The jump of instruction i to instruction t, with its condition and its place in the copy.
 fn write_jump(here: Guarded, copy: Round, i: usize, t: usize, f: Front, out: &mut [u8]) -> Front
     requires { (here.control ≡ f.control) × (t ≤ copy.n) × (f.next < 65535)
         × (f.to + length (records_bytes stmt_bytes
@@ -160,32 +160,39 @@ fn write_place(
 
 // Copy r, and its exit.
 fn write_copy(
-    table: &[u8],
-    offsets: &[u16],
+    source: Source,
     bound: usize,
     r: usize,
     names: &mut [u16],
     f: Front,
     out: &mut [u8],
 ) -> Front
-    requires { (r ≤ bound) × (bound ≤ 255) × (f.next + (length offsets.now + 1) ≤ 65535)
-        × Ready table.now offsets.now (length offsets.now)
-        × (header_inputs table.now ≤ length names.old)
+    requires { (r ≤ bound) × (bound ≤ 255) × (f.next + (length source.offsets.now + 1) ≤ 65535)
+        × (header_inputs source.table.now ≤ length names.old)
         × (f.to + length (records_bytes stmt_bytes
         (statements Bound (newest_of names.old f.control f.next)
-        (copy_from (length offsets.now) bound r 0 (listed (read_table table.now)))))
+        (copy_from (length source.offsets.now) bound r 0 (listed (read_table source.table.now)))))
         ≤ length out.old) }
     ensures { Written (newest_of names.old f.control f.next)
-        (copy_from (length offsets.now) bound r 0 (listed (read_table table.now))) out.old f.to out.new names.new result }
+        (copy_from (length source.entry.offsets.now) bound r 0 (listed (read_table source.entry.table.now))) out.old
+        f.to out.new names.new result }
 {
     let copy = Round {
-        n: offsets.len(),
+        n: source.offsets.len(),
         bound,
         r,
     };
     let mut g = f;
-    for (i, &at) in offsets.iter().enumerate() {
-        g = write_place(table, usize::from(at), copy, i, &mut *names, g, &mut *out);
+    for (i, &at) in source.offsets.iter().enumerate() {
+        g = write_place(
+            source.table,
+            usize::from(at),
+            copy,
+            i,
+            &mut *names,
+            g,
+            &mut *out,
+        );
     }
     let to = record::put_exit(g.control, copy.place(copy.n), g.next, copy.end(), out, g.to);
     g.moved(to)
@@ -193,26 +200,24 @@ fn write_copy(
 
 // All copies; the next place of the buffer.
 pub fn write_copies(
-    table: &[u8],
-    offsets: &[u16],
+    source: Source,
     bound: usize,
     names: &mut [u16],
     f: Front,
     out: &mut [u8],
 ) -> usize
-    requires { (bound ≤ 255) × (f.next + (bound + 1) * (length offsets.now + 1) ≤ 65535)
-        × Ready table.now offsets.now (length offsets.now)
-        × (header_inputs table.now ≤ length names.old)
+    requires { (bound ≤ 255) × (f.next + (bound + 1) * (length source.offsets.now + 1) ≤ 65535)
+        × (header_inputs source.table.now ≤ length names.old)
         × (f.to + length (records_bytes stmt_bytes
-        (statements Bound (newest_of names.old f.control f.next) (places (listed (read_table table.now)) bound)))
+        (statements Bound (newest_of names.old f.control f.next) (places (listed (read_table source.table.now)) bound)))
         ≤ length out.old) }
     ensures { Wrote out.old f.to
         (records_bytes stmt_bytes (statements Bound (newest_of names.old f.control f.next)
-        (places (listed (read_table table.now)) bound))) out.new result }
+        (places (listed (read_table source.entry.table.now)) bound))) out.new result }
 {
     let mut g = f;
     for r in 0..=bound {
-        g = write_copy(table, offsets, bound, r, &mut *names, g, &mut *out);
+        g = write_copy(source, bound, r, &mut *names, g, &mut *out);
     }
     g.to
 }

@@ -4,6 +4,7 @@
 mod copy;
 mod record;
 mod size;
+mod source;
 mod tokens;
 
 ghost use Rattle.std.specs.Prelude.{◌≡◌, ℕ, ◌+◌, ◌*◌, ◌^◌, ◌≤◌, ◌<◌, length};
@@ -12,7 +13,6 @@ ghost use Rattle.file.specs.Outcome.{Bound};
 ghost use Rattle.file.specs.File.{input_room, header_inputs};
 ghost use Rattle.file.specs.Shown.{listed};
 ghost use Rattle.table.specs.Table.{read_table};
-ghost use Rattle.table.specs.Shown.{Ready};
 ghost use Rattle.trace.specs.Trace.{trace_head, encode_trace};
 ghost use Rattle.write.specs.Splice.{over};
 ghost use Rattle.write.specs.Shown.{written};
@@ -23,6 +23,7 @@ ghost use Rattle.unwind.specs.Shown.{current_of};
 
 use copy::Front;
 use file::{INPUT_ROOM, Reason, Refusal};
+use source::Source;
 use std::array;
 use table::read;
 pub use write::Written as Answer;
@@ -35,21 +36,14 @@ fn first_names() -> [u16; INPUT_ROOM]
 }
 
 // The header, the opening and all copies, of a trace whose statements and bytes are counted and fit.
-fn write_all(
-    table: &[u8],
-    offsets: &[u16],
-    bound: usize,
-    count: usize,
-    total: usize,
-    out: &mut [u8],
-)
-    requires { Ready table.now offsets.now (length offsets.now) × (bound ≤ 255)
-        × (count ≡ 1 + (bound + 1) * (length offsets.now + 1)) × (count ≤ 4096)
-        × (total ≡ trace_size (listed (read_table table.now)) bound) × (total ≤ length out.old) }
-    ensures { out.new ≡ over (encode_trace (trace_head (header_inputs table.now))
-        (unwind Bound (header_inputs table.now) (listed (read_table table.now)) bound)) out.old }
+fn write_all(source: Source, bound: usize, count: usize, total: usize, out: &mut [u8])
+    requires { (bound ≤ 255)
+        × (count ≡ 1 + (bound + 1) * (length source.offsets.now + 1)) × (count ≤ 4096)
+        × (total ≡ trace_size (listed (read_table source.table.now)) bound) × (total ≤ length out.old) }
+    ensures { out.new ≡ over (encode_trace (trace_head (header_inputs source.entry.table.now))
+        (unwind Bound (header_inputs source.entry.table.now) (listed (read_table source.entry.table.now)) bound)) out.old }
 {
-    let inputs = file::inputs_of(table);
+    let inputs = file::inputs_of(source.table);
     let a = write::put_header(trace::VERSION, total, inputs, count, out);
     let b = record::put_opening(inputs, out, a);
     let mut names = first_names();
@@ -58,7 +52,7 @@ fn write_all(
         next: inputs + 1,
         to: b,
     };
-    let _ = copy::write_copies(table, offsets, bound, &mut names, f, out);
+    let _ = copy::write_copies(source, bound, &mut names, f, out);
 }
 
 // Writes the trace of a table under a bound.
@@ -79,18 +73,21 @@ fn try_write(table: &[u8], bound: u64, out: &mut [u8]) -> Result<u32, Refusal>
         return Err(Reason::HighBound.into());
     }
     let k = bound as usize;
-    let stored = &offsets[..n];
-    let count = 1 + (k + 1) * (stored.len() + 1);
+    let count = 1 + (k + 1) * (n + 1);
     if 4096 < count {
         return Err(Reason::LongTrace.into());
     }
-    let total = size::trace_size(table, stored, k);
+    let source = Source {
+        table,
+        offsets: &offsets[..n],
+    };
+    let total = size::trace_size(source, k);
     if 65535 < total {
         return Err(Reason::LongTrace.into());
     }
     if out.len() < total {
         return Err(Reason::ShortBuffer.into());
     }
-    write_all(table, stored, k, count, total, out);
+    write_all(source, k, count, total, out);
     Ok(total as u32)
 }

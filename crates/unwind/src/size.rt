@@ -3,10 +3,10 @@ ghost use Rattle.std.specs.Prelude.{◌≡◌, true, false, ◌+◌, ◌*◌, �
 ghost use Rattle.file.specs.File.{input_room, record_of};
 ghost use Rattle.file.specs.Shown.{is_good, listed};
 ghost use Rattle.table.specs.Table.{instr, read_table};
-ghost use Rattle.table.specs.Shown.{Ready};
 ghost use Rattle.unwind.specs.Size.{copy_size, trace_size};
 ghost use Rattle.unwind.specs.Shown.{size_in};
 
+use super::source::Source;
 use super::tokens;
 use table::read;
 use table::read::Action;
@@ -44,17 +44,17 @@ fn instr_sizes(table: &[u8], at: usize, n: usize, i: usize) -> Sizes
 }
 
 // The records of a copy; the sums begin with the 25 bytes of its exit.
-fn copy_sizes(table: &[u8], offsets: &[u16]) -> Sizes
-    requires { Ready table.now offsets.now (length offsets.now) }
-    ensures { (result.early ≡ copy_size false 0 (listed (read_table table.now)))
-        × (result.last ≡ copy_size true 0 (listed (read_table table.now))) × (result.early ≤ 134348825) × (result.last ≤ 134348825) }
+fn copy_sizes(source: Source) -> Sizes
+    ensures { (result.early ≡ copy_size false 0 (listed (read_table source.entry.table.now)))
+        × (result.last ≡ copy_size true 0 (listed (read_table source.entry.table.now)))
+        × (result.early ≤ 134348825) × (result.last ≤ 134348825) }
 {
     let mut sum = Sizes {
         early: 25,
         last: 25,
     };
-    for (i, &at) in offsets.iter().enumerate() {
-        let s = instr_sizes(table, usize::from(at), offsets.len(), i);
+    for (i, &at) in source.offsets.iter().enumerate() {
+        let s = instr_sizes(source.table, usize::from(at), source.offsets.len(), i);
         sum.early += s.early;
         sum.last += s.last;
     }
@@ -62,10 +62,10 @@ fn copy_sizes(table: &[u8], offsets: &[u16]) -> Sizes
 }
 
 // The bytes of the whole trace.
-pub fn trace_size(table: &[u8], offsets: &[u16], bound: usize) -> usize
-    requires { (bound ≤ 255) × Ready table.now offsets.now (length offsets.now) }
-    ensures { result ≡ trace_size (listed (read_table table.now)) bound }
+pub fn trace_size(source: Source, bound: usize) -> usize
+    requires { bound ≤ 255 }
+    ensures { result ≡ trace_size (listed (read_table source.entry.table.now)) bound }
 {
-    let s = copy_sizes(table, offsets);
+    let s = copy_sizes(source);
     file::head_size(trace::VERSION) + (12 + (bound * s.early + s.last))
 }

@@ -1,9 +1,9 @@
 -- The answer by the way that the code takes to it: each `return` cites the law of that way (`proofs/Answers.antt`).
 use Prim.Native.Nat.{ℕ, ◌+◌, ◌*◌, ◌≤◌, ◌<◌}
 use native.Mathlib.Omega.{arith}
-use mathlib.Core.Path.{◌≡◌, refl, sym, ap, ◌∙◌, subst}
+use mathlib.Core.Path.{◌≡◌, sym, ap, ◌∙◌, subst}
 use mathlib.Core.List.{List}
-use lib.ListN.{length, take, length-replicate}
+use lib.ListN.{length, take, get_or, length-replicate}
 use Rattle.std.specs.Prelude.{◌^◌, Result, Err}
 use Rattle.std.specs.Result.{IfErr}
 use Rattle.std.proofs.lemmas.Result.{err_from_is_err_and}
@@ -37,7 +37,7 @@ module _ (c : In_ok-n) where
   stored = take c.in_ok-n.n c.read_table.new.offsets
 
   abbrev n : ℕ
-  n = length stored
+  n = c.in_ok-n.n
 
   accepted : read_table s ≡ Accepted (head_of s) (listed (read_table s))
   accepted = table-accepted s c.in_ok-n.ensures
@@ -45,14 +45,17 @@ module _ (c : In_ok-n) where
   head : Header is_table 1024 s
   head = right-header s c.in_ok-n.ensures
 
-  ready : Ready s stored n
-  ready = ready_cut whole
+  source : record {
+    ready : Ready s stored (length stored);
+    bytes : (i : ℕ) → get_or s i 0 < 256;
+  }
+  source = record { ready = ready_cut whole; bytes = λ i. (c.type_inv.table i).fits }
 
   count-is : length (listed (read_table s)) ≡ n
-  count-is = many s c.in_ok-n.ensures ∙ sym ready.count
+  count-is = many s c.in_ok-n.ensures ∙ sym whole.count
 
   few : n ≤ 1024
-  few = omega (arith, ready.count, head.count)
+  few = omega (arith, whole.count, head.count)
 
   statements : (K : ℕ) → K ≤ 255 → (K + 1) * (n + 1) + 0 ≤ 263424
   statements K l =
@@ -79,14 +82,12 @@ returns-in_err-n-clause-small c =
     (sym (handed (goal.at.returns-in_err-n-clause-small c).After-from_residual)) (omega arith)
 
 pub returns-then-bound-gt255-clause-answer : goal.returns-then-bound-gt255-clause-answer
-returns-then-bound-gt255-clause-answer c = bound_refuses _ _ _ _ _ (accepted (goal.at.returns-then-bound-gt255-clause-answer c).In_ok-n) c.if-bound-gt255.true
+returns-then-bound-gt255-clause-answer c =
+    bound_refuses _ _ _ _ _ (accepted (goal.at.returns-then-bound-gt255-clause-answer c).In_ok-n) c.if-bound-gt255.true
     (ap (λ f. written (Err f)) c.into.ensures)
 
 pub slice_bounds-offsets-end : goal.slice_bounds-offsets-end
 slice_bounds-offsets-end c = (whole (goal.at.slice_bounds-offsets-end c).In_ok-n).room
-
-pub slice_bounds-stored-end : goal.slice_bounds-stored-end
-slice_bounds-stored-end c = sym (cut-long (whole (goal.at.slice_bounds-stored-end c).In_ok-n))
 
 pub overflow_add-count-2 : goal.overflow_add-count-2
 overflow_add-count-2 c = omega (arith, few (goal.at.overflow_add-count-2 c).In_ok-n)
@@ -104,8 +105,14 @@ returns-then-count-gt4096-clause-answer c =
     count_refuses _ _ _ _ _ (accepted place) c.if-bound-gt255.false _
     (count-is place) c.if-count-gt4096.true (ap (λ f. written (Err f)) c.into-then-count-gt4096.ensures)
 
+pub slice_bounds-source-end : goal.slice_bounds-source-end
+slice_bounds-source-end c = sym (cut-long (whole (goal.at.slice_bounds-source-end c).In_ok-n))
+
+pub invariant_of-source : goal.invariant_of-source
+invariant_of-source c = source (goal.at.invariant_of-source c).In_ok-n
+
 pub trace_size-total-requires : goal.trace_size-total-requires
-trace_size-total-requires c = (c.if-bound-gt255.false, ready (goal.at.trace_size-total-requires c).In_ok-n)
+trace_size-total-requires c = c.if-bound-gt255.false
 
 pub returns-then-total-gt65535-clause-answer : goal.returns-then-total-gt65535-clause-answer
 returns-then-total-gt65535-clause-answer c =
@@ -123,9 +130,8 @@ returns-then-out-total-clause-answer c =
 
 pub write_all-requires : goal.write_all-requires
 write_all-requires c = (
-  ready (goal.at.write_all-requires c).In_ok-n,
   c.if-bound-gt255.false,
-  refl,
+  ap (λ n. 1 + (c.args.bound + 1) * (n + 1)) (sym (cut-long (whole (goal.at.write_all-requires c).In_ok-n))),
   c.if-count-gt4096.false,
   c.trace_size-total.ensures,
   c.if-out-total.false,

@@ -7,4 +7,5 @@ use Rattle.unwind.proofs.copy.write_copies.Given as goal
 
 abbrev pub invariant-loop-r : goal.invariant-loop-r
 invariant-loop-r l =
-    InCopies (listed (read_table l.table)) (length l.offsets) l.bound l.initial.names l.initial.g l.initial.out l.names l.out l.r l.g
+    InCopies (listed (read_table l.source.table.now)) (length l.source.offsets.now) l.bound l.initial.names l.initial.g
+    l.initial.out l.names l.out l.r l.g

@@ -1,23 +1,16 @@
 use native.Mathlib.Omega.{arith}
 use mathlib.Core.Bool.{true, false}
-use Rattle.expr.specs.Lists.{All, all-at}
-use Rattle.expr.specs.Number.{Byte}
-use Rattle.unwind.proofs.Accepted.{few, small}
+use Rattle.unwind.proofs.Accepted.{bytes, few, small}
 use Rattle.unwind.proofs.Sizes.{readable, record-on, copy_summed}
 use Rattle.unwind.proofs.size.copy_sizes.Goals as goal
-use Rattle.unwind.proofs.size.copy_sizes.Goals.{After-shared_slice_known-1}
-
-bytes : (c : After-shared_slice_known-1) → All Byte c.args.table.now
-bytes c = all-at Byte c.args.table.now (λ i h. (c.shared_slice_known-1.given i).fits)
 
 pub instr_sizes-s-requires : goal.instr_sizes-s-requires
-instr_sizes-s-requires c =
-    let place = (goal.at.instr_sizes-s-requires c).After-shared_slice_known-1 in (
-      small _ _ _ (bytes place)
-          c.requires,
-      readable _ _ _ (bytes place)
-          c.requires _ c.loop-i-test.true _ c.from.ensures,
-    )
+instr_sizes-s-requires c = (
+  small _ _ _ (bytes c.args.source)
+      c.args.source.ready,
+  readable _ _ _ (bytes c.args.source)
+      c.args.source.ready _ c.loop-i-test.true _ c.from.ensures,
+)
 
 pub overflow_add-sum : goal.overflow_add-sum
 overflow_add-sum c =
@@ -26,8 +19,8 @@ overflow_add-sum c =
       c.loop-i.invariant.0.little,
       c.instr_sizes-s.ensures.2,
       c.loop-i-test.true,
-      few _ _ _ (bytes (goal.at.overflow_add-sum c).After-shared_slice_known-1)
-          c.requires,
+      few _ _ _ (bytes c.args.source)
+          c.args.source.ready,
     )
 
 pub overflow_add-sum-in-loop-i : goal.overflow_add-sum-in-loop-i
@@ -37,15 +30,15 @@ overflow_add-sum-in-loop-i c =
       c.loop-i.invariant.1.little,
       c.instr_sizes-s.ensures.3,
       c.loop-i-test.true,
-      few _ _ _ (bytes (goal.at.overflow_add-sum-in-loop-i c).After-shared_slice_known-1)
-          c.requires,
+      few _ _ _ (bytes c.args.source)
+          c.args.source.ready,
     )
 
 pub loop-i-preserved : goal.loop-i-preserved
 loop-i-preserved c =
     let s = c.instr_sizes-s.ensures in
-    let on = record-on _ _ _ (bytes (goal.at.loop-i-preserved c).After-shared_slice_known-1)
-    c.requires in (
+    let on = record-on _ _ _ (bytes c.args.source)
+    c.args.source.ready in (
       on false _ _ _ c.loop-i-test.true c.loop-i.invariant.0 _ c.from.ensures s.0
           s.2,
       on true _ _ _ c.loop-i-test.true
@@ -54,9 +47,8 @@ loop-i-preserved c =
 
 pub returns : goal.returns
 returns c =
-    let place = (goal.at.returns c).After-shared_slice_known-1 in
-    let early = copy_summed _ _ _ (bytes place) c.requires c.loop-i.invariant.0
+    let early = copy_summed _ _ _ (bytes c.args.source) c.args.source.ready c.loop-i.invariant.0
     c.loop-i-test.false in
-    let last = copy_summed _ _ _ (bytes place) c.requires c.loop-i.invariant.1
+    let last = copy_summed _ _ _ (bytes c.args.source) c.args.source.ready c.loop-i.invariant.1
     c.loop-i-test.false in
     (early.0, last.0, early.1, last.1)

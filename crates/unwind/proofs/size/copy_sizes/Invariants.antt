@@ -7,4 +7,5 @@ use Rattle.unwind.proofs.size.copy_sizes.Given as goal
 
 abbrev pub invariant-loop-i : goal.invariant-loop-i
 invariant-loop-i l =
-    Summing false (listed (read_table l.table)) l.i l.sum.early × Summing true (listed (read_table l.table)) l.i l.sum.last
+    Summing false (listed (read_table l.source.table.now)) l.i l.sum.early
+    × Summing true (listed (read_table l.source.table.now)) l.i l.sum.last

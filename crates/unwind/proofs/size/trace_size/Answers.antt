@@ -2,16 +2,10 @@ use Prim.Native.Nat.{◌+◌, ◌*◌}
 use mathlib.Core.Path.{ap₂}
 use Rattle.trace.specs.Trace.{trace_version}
 use Rattle.unwind.proofs.size.trace_size.Goals as goal
-use Rattle.unwind.proofs.size.trace_size.Goals.{After-struct_known-2-1, Start}
-
--- all sums are little
-module _ (c : After-struct_known-2-1) where
-  abbrev start : Start
-  start = (goal.at.After-struct_known-2-1 c).Start
 
 pub returns : goal.returns
 unfolding trace_version
 returns c =
     ap₂ (λ h n. h + (12 + n)) c.head_size.ensures.0
-    (ap₂ (λ e l. (start (goal.at.returns c).After-struct_known-2-1).args.bound * e + l) c.copy_sizes-s.ensures.0
+    (ap₂ (λ e l. c.args.bound * e + l) c.copy_sizes-s.ensures.0
     c.copy_sizes-s.ensures.1)
