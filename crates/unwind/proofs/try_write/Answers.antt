@@ -61,7 +61,7 @@ module _ (c : In_ok-n) where
       omega (arith, mul-le-mul_left (K + 1) m, mul-le-mul_right 1025 k)
 
 -- the table is refused: the error that goes on is the reader's
-handed : (c : After-from_residual) → c.from_residual.result ≡ Err c.in_err-n.field-0.0
+handed : (c : After-from_residual) → c.from_residual.result ≡ Err c.in_err-n.field-0.0.why
 handed c =
     let p = err_from_is_err_and c.from_residual.result c.from_residual.ensures.1 in
     p.1 ∙ ap {B = Result ℕ Refusal} Err p.2
@@ -79,7 +79,8 @@ returns-in_err-n-clause-small c =
     (sym (handed (goal.at.returns-in_err-n-clause-small c).After-from_residual)) (omega arith)
 
 pub returns-then-bound-gt255-clause-answer : goal.returns-then-bound-gt255-clause-answer
-returns-then-bound-gt255-clause-answer c = bound_refuses _ _ _ _ _ (accepted (goal.at.returns-then-bound-gt255-clause-answer c).In_ok-n) c.if-bound-gt255.true
+returns-then-bound-gt255-clause-answer c =
+    bound_refuses _ _ _ _ _ (accepted (goal.at.returns-then-bound-gt255-clause-answer c).In_ok-n) c.if-bound-gt255.true
     (ap (λ f. written (Err f)) c.into.ensures)
 
 pub slice_bounds-offsets-end : goal.slice_bounds-offsets-end
