@@ -17,12 +17,12 @@ use Rattle.file.specs.Shown.{reply_of, read_count, reading_of, reading_in, offse
 use Rattle.file.specs.Shown.{file_reading, file_count}
 use Rattle.file.specs.Shown.{ReadFile, Ready}
 use Rattle.file.proofs.FileLaws.{reply-some, head-short, reading_offset, records-chain, count-all, Header, header_is, file-refused}
-use Rattle.file.proofs.FileLaws.{file-read}
+use Rattle.file.proofs.FileLaws.{file-read, reading_count}
 use Rattle.file.specs.File.{Low}
 use Rattle.file.proofs.FileLaws.{file-is}
 use Rattle.file.proofs.FileLaws.{file-refused-low, offsets_length, sets_at}
 use Rattle.file.specs.declared.Reason.{Reason}
-use Rattle.file.specs.declared.Refusal as Code
+use Rattle.file.specs.declared.Unread.{Unread}
 
 pub total-small : (s : List ℕ) → All Byte s → header_total s < 65536
 total-small s o = number_lt 2 (drop 1 s) (all_drop Byte 1 s o)
@@ -42,12 +42,12 @@ too_long known limit s o h =
     )
 
 -- a refusal is the file's
-pub refuses : {A : Type 0} {file : Input A} {count : ℕ} {s off off' : List ℕ} {f : Code.Refusal} → ReadFile file count s off off' (Err f)
-    → file ≡ Refused (reply_of f.reason) f.offset
-refuses {A} {file} {count} {f = f} w = go file refl w.answer
+pub refuses : {A : Type 0} {file : Input A} {count : ℕ} {s off off' : List ℕ} {u : Unread} → ReadFile file count s off off' (Err u)
+    → file ≡ Refused (reply_of u.why.reason) u.why.offset
+refuses {A} {file} {count} {u = u} w = go file refl w.answer
   where
-    go : (x : Input A) → file ≡ x → reading_in count (Err f) ≡ file_reading count x → file ≡ Refused (reply_of f.reason) f.offset
-    go (Accepted head xs) e q = absurd (omega (arith, ap (λ r. r.reply) q, reply-some f.reason))
+    go : (x : Input A) → file ≡ x → reading_in (Err u) ≡ file_reading count x → file ≡ Refused (reply_of u.why.reason) u.why.offset
+    go (Accepted head xs) e q = absurd (omega (arith, ap (λ r. r.reply) q, reply-some u.why.reason))
     go (Refused k at) e q = e ∙ sym (ap₂ {C = Input A} Refused (ap (λ r. r.reply) q) (ap (λ r. r.offset) q))
 
 module _ {A St : Type 0} (known : ℕ → Bool) (limit : ℕ) (one : (head : Head) (n : ℕ) → St → List ℕ → Body A) (next : St → A → St)
@@ -83,42 +83,43 @@ module _ {A St : Type 0} (known : ℕ → Bool) (limit : ℕ) (one : (head : Hea
   -- ---- the ways to a reading: the header refuses, or the records are read
 
   pub header_read : (reason : Reason) → reply_of reason ≡ header_reply known limit s → (off : List ℕ)
-      → ReadFile file count s off off (Err (record { reason = reason; offset = 0 }))
+      → ReadFile file count s off off (Err (record { why = record { reason = reason; offset = 0 }; count = 0 }))
   unfolding offsets_from
   header_read reason e off =
       let h : reply_of reason ≡ 0 → ⊥ = λ z. omega (arith, reply-some reason) in
       let none : count ≡ 0 = ap (λ x. cond (eqb x 0) counted 0) (sym e) ∙ ap (λ b. cond b counted 0) (ne_eqb (reply_of reason) 0 h) in
       record {
-        answer = sym (ap (file_reading count) (file-refused known limit body s (reply_of reason) (sym e) h));
+        answer = sym (ap₂ (λ c x. file_reading c x) none (file-refused known limit body s (reply_of reason) (sym e) h));
         stored = sym (ap (λ c. sets off 0 (offsets_in c s)) none);
       }
 
-  module _ (right : header_reply known limit s ≡ 0) {off off' : List ℕ} {r : Result ℕ Code.Refusal} where
+  module _ (right : header_reply known limit s ≡ 0) {off off' : List ℕ} {r : Result ℕ Unread} where
     pub records-read : ReadRecords (one head n) next s n (first head) off off' r → ReadFile file count s off off' r
     records-read w = record {
       answer =
-          ap (λ c. reading_in c r) (count-is right)
-          ∙ w.answer
+          w.answer
           ∙ as_file counted all
           ∙ sym (ap₂ (λ c x. file_reading c x) (count-is right) (file-read known limit body s right));
-      stored = w.stored ∙ ap (λ c. sets off 0 (offsets_in c s)) (sym (count-is right));
+      stored = w.stored
+          ∙ ap (λ c. sets off 0 (offsets_in c s))
+          (ap (λ r. r.count) w.answer ∙ reading_count (length s) counted all ∙ sym (count-is right));
     }
 
   -- ---- what a reading says
 
-  pub offset-small : {off off' : List ℕ} {f : Code.Refusal} → ReadFile file count s off off' (Err f) → All Byte s → f.offset < 65536
-  offset-small {f = f} w o = go (eqb (header_reply known limit s) 0) refl
+  pub offset-small : {off off' : List ℕ} {u : Unread} → ReadFile file count s off off' (Err u) → All Byte s → u.why.offset < 65536
+  offset-small {u = u} w o = go (eqb (header_reply known limit s) 0) refl
     where
-      go : (b : Bool) → eqb (header_reply known limit s) 0 ≡ b → f.offset < 65536
+      go : (b : Bool) → eqb (header_reply known limit s) 0 ≡ b → u.why.offset < 65536
       go true e =
           let h = eqb-true (header_reply known limit s) 0 e in
-          let q : reading_in count (Err f) ≡ reading_of (length s) count all = w.answer
+          let q : reading_in (Err u) ≡ reading_of (length s) count all = w.answer
           ∙ ap (file_reading count) (file-read known limit body s h)
           ∙ sym (as_file count all) in
           omega (arith, ap (λ r. r.offset) q, reading_offset (length s) count all, short known limit s o h)
       go false e =
           let h : header_reply known limit s ≡ 0 → ⊥ = eqb-false (header_reply known limit s) 0 e in
-          let q : f.offset ≡ 0 = ap (λ r. r.offset)
+          let q : u.why.offset ≡ 0 = ap (λ r. r.offset)
           (w.answer ∙ ap (file_reading count) (file-refused known limit body s (header_reply known limit s) refl h)) in
           omega arith
 
@@ -133,7 +134,7 @@ module _ {A St : Type 0} (known : ℕ → Bool) (limit : ℕ) (one : (head : Hea
       accepts : Accepts
       accepts = go file refl w.answer
         where
-          go : (x : Input A) → file ≡ x → reading_in count (Ok m) ≡ file_reading count x → Accepts
+          go : (x : Input A) → file ≡ x → reading_in (Ok m) ≡ file_reading count x → Accepts
           go (Refused k at) e q =
               absurd (let z : 0 ≡ k = ap (λ r. r.reply) q in
               omega (arith, file-refused-low known limit one next first low s k at e))

@@ -1,7 +1,7 @@
 -- A turn of the loop over records: what a reader finds in the record at hand, and what it goes on with. The reader's own meaning of a
 -- record, `now`, is still the one from the loop's start.
 use Rattle.std.specs.Prelude.{ℕ, ◌+◌, ◌-◌, ◌≤◌, ◌<◌, ◌≡◌, refl, List, length, take, drop, set, Some, Err}
-use Rattle.std.proofs.Common.{arith, sym, ◌∙◌, subst}
+use Rattle.std.proofs.Common.{arith, sym, ap, ◌∙◌, subst}
 use Rattle.file.specs.File.{Low, Body, Good, frame, record_of}
 use Rattle.file.specs.Shown.{frame_in, fine, fault_in, fault_of, ReadRecords}
 use Rattle.file.specs.declared.Refusal as Code
@@ -34,11 +34,11 @@ module _ {A St : Type 0} {one : St → List ℕ → Body A} {next : St → A →
       points-inside = omega (arith, fault_inside (length body) (now σ body) r e, cut_all, inside)
 
       pub refused : {r' : Code.Refusal} → r' ≡ record { reason = r.reason; offset = at + r.offset }
-          → ReadRecords one next s n σ₀ off₀ off (Err r')
+          → ReadRecords one next s n σ₀ off₀ off (Err (record { why = r'; count = k }))
       refused q =
           let b = fault_bad (length body) (now σ body) r e in
-          subst (λ r. ReadRecords one next s n σ₀ off₀ off (Err r)) (sym q)
-          (refuse one next s n σ₀ off₀ w h b.0 (as-begun (cut ∙ b.1)) (cut_all ∙ is-frame.0) b.2 refl points-inside)
+          refuse one next s n σ₀ off₀ w h b.0 (as-begun (cut ∙ b.1)) (cut_all ∙ is-frame.0) b.2 refl points-inside
+          (ap (λ r. record { why = r; count = k }) q)
 
     pub there : Low (now σ body) → fine ≡ fault_of (length body) (now σ body) → (x : A) × (record_of (now σ) (drop at s) ≡ Good x)
     there l e = let g = fault_good (length body) (now σ body) l e in (g.0, cut ∙ g.1)

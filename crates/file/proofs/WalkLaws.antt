@@ -8,14 +8,15 @@ use Rattle.std.proofs.lemmas.List.Edits.{sets}
 use Rattle.std.proofs.Math.Seq.{length-sets}
 use Rattle.file.specs.File.{header_size, after_header, Refusal, Body, Good, Bad, frame, Records, Read, Stop, record_of, records}
 use Rattle.std.specs.Prelude.{Result, Ok, Err}
-use Rattle.file.specs.Shown.{Reading, reply_of, fault_at, fault_in, read_count, reading_of, offsets_from, offsets_in}
+use Rattle.file.specs.Shown.{Reading, reply_of, fault_at, fault_in, read_count, reading_in, reading_of, offsets_from, offsets_in}
 use Rattle.file.specs.Shown.{ReadRecords}
-use Rattle.file.proofs.FileLaws.{reading_count, reading_before, records-good, records_bad, count-good, count_bad, records-end}
+use Rattle.file.proofs.FileLaws.{reading_before, records-good, records_bad, count-good, count_bad, records-end}
 use Rattle.file.proofs.FileLaws.{records-spare}
 use Rattle.file.proofs.FileLaws.{offsets_length, Reached, reached-start, reached-next, reached-on, sets_snoc}
 use Rattle.file.specs.declared.Reason.{Reason}
 use Rattle.file.specs.declared.Reason.TheVariants as R
 use Rattle.file.specs.declared.Refusal as Code
+use Rattle.file.specs.declared.Unread.{Unread}
 
 module _ {A St : Type 0} (one : St → List ℕ → Body A) (next : St → A → St) (s : List ℕ) (n : ℕ) (σ₀ : St) (off₀ : List ℕ) where
   -- the answer's reading of c records from an offset on, with k before them
@@ -29,7 +30,7 @@ module _ {A St : Type 0} (one : St → List ℕ → Body A) (next : St → A →
   abbrev count : ℕ
   count = read_count one next n σ₀ (after_header s)
 
-  abbrev Done : (off : List ℕ) (r : Result ℕ Code.Refusal) → Type 0
+  abbrev Done : (off : List ℕ) (r : Result ℕ Unread) → Type 0
   Done off r = ReadRecords one next s n σ₀ off₀ off r
 
   pub record Walking (off : List ℕ) (at k : ℕ) (σ : St) : Type 0 where
@@ -66,13 +67,11 @@ module _ {A St : Type 0} (one : St → List ℕ → Body A) (next : St → A →
     -- a refusal after the first k records
     refused : (reason : Reason) (place : ℕ) → record { reply = reply_of reason; offset = place; count = k }
         ≡ reading_of (length s) count whole
-        → Done off (Err (record { reason = reason; offset = place }))
-    refused reason place e =
-        let all : k ≡ count = ap (λ r. r.count) e ∙ reading_count (length s) count whole in
-        record {
-          answer = ap (λ c. record { reply = reply_of reason; offset = place; count = c }) (sym all) ∙ e;
-          stored = w.stored ∙ ap (λ c. sets off₀ 0 (offsets_in c s)) all;
-        }
+        → {u : Unread} → u ≡ record { why = record { reason = reason; offset = place }; count = k } → Done off (Err u)
+    refused reason place e {u} q = record {
+      answer = ap (λ u. reading_in (Err u)) q ∙ e;
+      stored = w.stored ∙ ap (λ c. sets off₀ 0 (offsets_in c s)) (sym (ap (λ u. u.count) q));
+    }
 
     module _ (h : k < n) where
       pub left : n - k ≡ suc (n - (k + 1))
@@ -81,8 +80,8 @@ module _ {A St : Type 0} (one : St → List ℕ → Body A) (next : St → A →
       -- with the code's own length of the record, what it finds wrong there, and the place of that
       pub refuse : {len place : ℕ} {f : Code.Refusal} (r : Refusal) → record_of (one σ) (drop at s) ≡ Bad r → len ≡ frame (drop at s)
           → fault_in (Err f) ≡ fault_at len r → place ≡ at + f.offset → place ≤ length s
-          → Done off (Err (record { reason = f.reason; offset = place }))
-      refuse {len} {place} {f} r e le is there inside =
+          → {u : Unread} → u ≡ record { why = record { reason = f.reason; offset = place }; count = k } → Done off (Err u)
+      refuse {len} {place} {f} r e le is there inside {u} q =
           let c = n - (k + 1) in
           let g = fault_at (frame (drop at s)) r in
           let same : fault_in (Err f) ≡ g = is ∙ ap (λ l. fault_at l r) le in
@@ -95,6 +94,7 @@ module _ {A St : Type 0} (one : St → List ℕ → Body A) (next : St → A →
           ∙ ap₂ (λ o c. record { reply = g.reply; offset = o; count = c }) found (let z : k + 0 ≡ k = omega arith in z)
           ∙ ap (λ f. record { reply = f.reply; offset = place; count = k }) (sym same))
           ∙ w.same)
+          q
 
       -- with the code's own length of the record
       pub on : (x : A) → record_of (one σ) (drop at s) ≡ Good x → (len : ℕ) → len ≡ frame (drop at s) → at + (2 + len) ≤ length s
@@ -140,12 +140,13 @@ module _ {A St : Type 0} (one : St → List ℕ → Body A) (next : St → A →
           ∙ ended (Read []) (records-end one next s at σ (omega arith)) in
           record {
             answer = told;
-            stored = w.stored
-                ∙ ap (λ c. sets off₀ 0 (offsets_in c s)) (all ∙ ap (λ r. r.count) told ∙ reading_count (length s) count whole);
+            stored = w.stored ∙ ap (λ c. sets off₀ 0 (offsets_in c s)) all;
           }
 
-      pub spare : (at ≡ length s → ⊥) → Done off (Err (record { reason = R.Record; offset = at }))
-      spare e =
+      pub spare : (at ≡ length s → ⊥) → {u : Unread} → u ≡ record { why = record { reason = R.Record; offset = at }; count = n }
+          → Done off (Err u)
+      spare e {u} q =
           refused R.Record at (
           ap₂ (λ o c. record { reply = 5; offset = o; count = c }) (sym offset) (let z : k ≡ n + 0 = omega (arith, all) in z)
           ∙ ended (Stop 5 (drop at s)) (records-spare one next s at σ (omega (arith, e, w.inside))))
+          (q ∙ ap (λ c. record { why = record { reason = R.Record; offset = at }; count = c }) (sym all))

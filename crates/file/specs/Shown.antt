@@ -11,6 +11,7 @@ use Rattle.file.specs.File.{Records, Read, Stop, records, Input, Accepted, Refus
 use Rattle.file.specs.declared.Reason.{Reason}
 use Rattle.file.specs.declared.Reason.TheVariants as R
 use Rattle.file.specs.declared.Refusal as Code
+use Rattle.file.specs.declared.Unread.{Unread}
 use Rattle.file.specs.declared.Failure.{Failure}
 
 -- ---- refusals, as numbers
@@ -101,10 +102,10 @@ offsets_from (suc c) at bs = at ∷ offsets_from c (at + (2 + frame bs)) (drop (
 abbrev pub offsets_in : (c : ℕ) (s : List ℕ) → List ℕ
 offsets_in c s = offsets_from c (header_size s) (after_header s)
 
--- what the code's answer says of a file's records: it counts them where all are read, and `count` are read where they are refused
-abbrev pub reading_in : (count : ℕ) → Result ℕ Code.Refusal → Reading
-reading_in count (Ok n) = record { reply = 0; offset = 0; count = n }
-reading_in count (Err f) = record { reply = reply_of f.reason; offset = f.offset; count = count }
+-- what the code's answer says of a file's records
+abbrev pub reading_in : Result ℕ Unread → Reading
+reading_in (Ok n) = record { reply = 0; offset = 0; count = n }
+reading_in (Err u) = record { reply = reply_of u.why.reason; offset = u.why.offset; count = u.count }
 
 -- in a file of `total` bytes, with `count` records read
 abbrev pub reading_of : {A : Type 0} → (total count : ℕ) → Records A → Reading
@@ -122,10 +123,9 @@ module _ {A St : Type 0} (one : St → List ℕ → Body A) (next : St → A →
   read_count (suc c) σ bs = one_more (record_of (one σ) bs) (λ a. read_count c (next σ a) (drop (2 + frame bs) bs))
 
   -- the reading of the n records after a header, with the offsets of those that are read stored
-  pub record ReadRecords (s : List ℕ) (n : ℕ) (σ : St) (before after : List ℕ) (r : Result ℕ Code.Refusal) : Type 0 where
-    pub answer : reading_in (read_count n σ (after_header s)) r
-        ≡ reading_of (length s) (read_count n σ (after_header s)) (records one next n σ (after_header s))
-    pub stored : after ≡ sets before 0 (offsets_in (read_count n σ (after_header s)) s)
+  pub record ReadRecords (s : List ℕ) (n : ℕ) (σ : St) (before after : List ℕ) (r : Result ℕ Unread) : Type 0 where
+    pub answer : reading_in r ≡ reading_of (length s) (read_count n σ (after_header s)) (records one next n σ (after_header s))
+    pub stored : after ≡ sets before 0 (offsets_in (reading_in r).count s)
 
 -- ---- a whole file
 
@@ -150,8 +150,8 @@ file_count known limit one next first s =
     (read_count (one (head_of s) (header_count s)) next (header_count s) (first (head_of s)) (after_header s)) 0
 
 -- the reading of a file, with the offsets of the records that are read stored
-pub record ReadFile {A : Type 0} (file : Input A) (count : ℕ) (s before after : List ℕ) (r : Result ℕ Code.Refusal) : Type 0 where
-  pub answer : reading_in count r ≡ file_reading count file
+pub record ReadFile {A : Type 0} (file : Input A) (count : ℕ) (s before after : List ℕ) (r : Result ℕ Unread) : Type 0 where
+  pub answer : reading_in r ≡ file_reading count file
   pub stored : after ≡ sets before 0 (offsets_in count s)
 
 -- a file that is accepted, with its n records' offsets stored

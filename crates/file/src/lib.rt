@@ -69,6 +69,33 @@ impl Refusal {
     }
 }
 
+// Why a file is refused, and how many of its records are read before that.
+#[derive(Clone, Copy, PartialEq, Eq)]
+pub struct Unread {
+    pub why: Refusal,
+    pub count: usize,
+}
+
+// A header that is refused comes before every record.
+impl From<Reason> for Unread {
+    ghost from_gives = { λ reason unread. unread ≡ record { why = record { reason = reason; offset = 0 }; count = 0 } };
+
+    fn from(reason: Reason) -> Unread {
+        Unread {
+            why: reason.into(),
+            count: 0,
+        }
+    }
+}
+
+impl From<Unread> for Refusal {
+    ghost from_gives = { λ u refusal. refusal ≡ u.why };
+
+    fn from(unread: Unread) -> Refusal {
+        unread.why
+    }
+}
+
 // What a test is for: an assumption, what must hold, the bound on back jumps.
 #[derive(Clone, Copy, PartialEq, Eq)]
 pub enum Kind {

@@ -2,8 +2,9 @@
 ghost use Rattle.std.specs.Prelude.{◌≡◌, true, ◌+◌, ◌≤◌, ◌<◌, ℕ, List, length, drop};
 ghost use Rattle.file.specs.File.{Low, header_size, Body, Good, record_of};
 ghost use Rattle.file.specs.Shown.{fault_in, fault_of, is_good, ReadRecords};
+ghost use Rattle.file.specs.declared.Reason.TheVariants.{Record};
 
-use super::{Reason, Refusal};
+use super::{Reason, Refusal, Unread};
 
 // What reads a kind of file's records: it knows what a record may be, from the file and from the records before it.
 pub trait Reader {
@@ -36,36 +37,46 @@ pub trait Reader {
     ghost low: { (r : Self) (σ : State) (bs : List ℕ) → Low (one r σ bs) };
 }
 
+// So many records are read, and at a place behind them is none.
+fn no_record(at: usize, count: usize) -> Unread
+    ensures { result ≡ record { why = record { reason = Record; offset = at }; count = count } }
+{
+    Unread {
+        why: Refusal {
+            reason: Reason::Record,
+            offset: at,
+        },
+        count,
+    }
+}
+
 // Reads n records, from the header on, and stores their offsets.
 pub fn read_records<R: Reader + Drop>(
     s: &[u8],
     mut reader: R,
     n: usize,
     offsets: &mut [u16],
-) -> Result<usize, Refusal>
+) -> Result<usize, Unread>
     requires { (header_size s.now ≤ length s.now) × (length s.now < 65536) × (n ≤ length offsets.old) × R.ready reader }
     ensures { ReadRecords (R.one reader) (R.next reader) s.now n (R.state reader) offsets.old offsets.new result }
 {
     let mut at = super::header_size(s);
     for k in 0..n {
         let Some(len) = super::frame_at(s, at) else {
-            return Err(Refusal {
-                reason: Reason::Record,
-                offset: at,
-            });
+            return Err(no_record(at, k));
         };
         if let Err(refusal) = reader.check(&s[at + 2..at + (2 + len)]) {
-            return Err(refusal.after(at));
+            return Err(Unread {
+                why: refusal.after(at),
+                count: k,
+            });
         }
         offsets[k] = at as u16;
         reader.learn(s, at);
         at += 2 + len;
     }
     if at != s.len() {
-        return Err(Refusal {
-            reason: Reason::Record,
-            offset: at,
-        });
+        return Err(no_record(at, n));
     }
     Ok(n)
 }

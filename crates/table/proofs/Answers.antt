@@ -16,7 +16,7 @@ use Rattle.file.proofs.FileLaws.{Header}
 use Rattle.file.proofs.ReadingLaws as Reading
 use Rattle.std.specs.Prelude.{Result, Ok, Err}
 use Rattle.file.specs.declared.Reason.{Reason}
-use Rattle.file.specs.declared.Refusal as Code
+use Rattle.file.specs.declared.Unread.{Unread}
 use Rattle.table.specs.Table.{Instr, instr, is_table, read_table}
 use Rattle.table.specs.TableLaws.{instr-low}
 use Rattle.table.specs.Run.{run_from, run}
@@ -36,20 +36,20 @@ first head = tt
 
 module _ (s : List ℕ) where
   pub header_read : (reason : Reason) → reply_of reason ≡ header_reply is_table 1024 s → (off : List ℕ)
-      → ReadTable s off off (Err (record { reason = reason; offset = 0 }))
+      → ReadTable s off off (Err (record { why = record { reason = reason; offset = 0 }; count = 0 }))
   unfolding read_table
   header_read = Reading.header_read is_table 1024 one next first s
 
   -- with the code's own numbers of inputs and records
   pub records-read : header_reply is_table 1024 s ≡ 0 → {S n : ℕ} → S ≡ header_inputs s → n ≡ header_count s
-      → {off off' : List ℕ} {r : Result ℕ Code.Refusal}
+      → {off off' : List ℕ} {r : Result ℕ Unread}
       → ReadRecords s S n off off' r → ReadTable s off off' r
   unfolding read_table
   records-read h {S} {n} i e {off} {off'} {r} w = Reading.records-read is_table 1024 one next first s h
       (subst (λ n. ReadRecords s (header_inputs s) n off off' r) e (subst (λ S. ReadRecords s S n off off' r) i w))
 
 module _ (s : List ℕ) {off off' : List ℕ} where
-  pub offset-small : {f : Code.Refusal} → ReadTable s off off' (Err f) → All Byte s → f.offset < 65536
+  pub offset-small : {u : Unread} → ReadTable s off off' (Err u) → All Byte s → u.why.offset < 65536
   unfolding read_table
   offset-small = Reading.offset-small is_table 1024 one next first s
 

@@ -9,6 +9,7 @@ use Rattle.file.specs.Shown as File
 use Rattle.file.specs.Shown.{reply_of, outcome_of, kind_of, rest_of, file_count, ReadFile}
 use Rattle.file.specs.declared.Failure.{Failure}
 use Rattle.file.specs.declared.Refusal as Refused
+use Rattle.file.specs.declared.Unread.{Unread}
 use Rattle.table.specs.declared.Answer.{Answer}
 use Rattle.table.specs.declared.read.Action.{Action}
 use Rattle.table.specs.declared.read.Action.TheVariants as A
@@ -21,7 +22,7 @@ use Rattle.table.specs.Answer.{refusal, answer_of}
 -- ---- reading
 
 -- the reading of the n records after a table's header
-abbrev pub ReadRecords : (table : List ℕ) (S n : ℕ) (before after : List ℕ) → Result ℕ Refused.Refusal → Type 0
+abbrev pub ReadRecords : (table : List ℕ) (S n : ℕ) (before after : List ℕ) → Result ℕ Unread → Type 0
 ReadRecords table S n before after r = File.ReadRecords {St = Unit {0}} (λ u. instr S n) (λ u a. u) table n tt before after r
 
 -- of a table's records, how many are read before the first refusal
@@ -29,7 +30,7 @@ abbrev pub instr_count : (table : List ℕ) → ℕ
 instr_count table = file_count {St = Unit {0}} is_table 1024 (λ head n u. instr head.inputs n) (λ u a. u) (λ head. tt) table
 
 -- the reading of a table
-abbrev pub ReadTable : (table before after : List ℕ) → Result ℕ Refused.Refusal → Type 0
+abbrev pub ReadTable : (table before after : List ℕ) → Result ℕ Unread → Type 0
 ReadTable table before after r = ReadFile (read_table table) (instr_count table) table before after r
 
 -- a table that is accepted, with its n records' offsets stored

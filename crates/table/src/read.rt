@@ -10,7 +10,7 @@ ghost use Rattle.table.specs.Shown.{expr_start, expr_part, action_at, ReadRecord
 
 use expr::{File, number};
 use file::records::Reader;
-use file::{Kind, Reason, Refusal, records};
+use file::{Kind, Reason, Refusal, Unread, records};
 
 // Refuses the expression from a place of a record on.
 fn expr_fault(body: &[u8], from: usize, inputs: usize) -> Result<(), Refusal>
@@ -88,9 +88,9 @@ fn is_table(version: u8) -> bool
     version == 1
 }
 
-// Reads any bytes as a table: the number of its records, with the offsets of all of them stored, or why they are refused, with the offsets
-// of the records before.
-pub fn read_table(table: &[u8], offsets: &mut [u16]) -> Result<usize, Refusal>
+// Reads any bytes as a table: the number of its records, with the offsets of all of them stored, or why they are refused, and the number of
+// the records before, with their offsets stored.
+pub fn read_table(table: &[u8], offsets: &mut [u16]) -> Result<usize, Unread>
     requires { 1024 ≤ length offsets.old }
     ensures { ReadTable table.now offsets.old offsets.new result }
 {

@@ -16,7 +16,7 @@ use Rattle.file.proofs.ReadingLaws as Reading
 use Rattle.std.specs.Prelude.{Result, Ok, Err}
 use Rattle.file.specs.Shown.{reply_of}
 use Rattle.file.specs.declared.Reason.{Reason}
-use Rattle.file.specs.declared.Refusal as Code
+use Rattle.file.specs.declared.Unread.{Unread}
 use Rattle.trace.specs.Trace.{Stmt, Seen, see, at_first, stmt, is_trace, tells_bound, read_trace}
 use Rattle.trace.specs.TraceLaws.{stmt-low}
 use Rattle.trace.specs.Judge.{judge}
@@ -30,19 +30,19 @@ one head n = stmt (head.inputs + 4096)
 
 module _ (s : List ℕ) where
   pub header_read : (reason : Reason) → reply_of reason ≡ header_reply is_trace 4096 s → (off : List ℕ)
-      → ReadTrace s off off (Err (record { reason = reason; offset = 0 }))
+      → ReadTrace s off off (Err (record { why = record { reason = reason; offset = 0 }; count = 0 }))
   unfolding read_trace
   header_read = Reading.header_read is_trace 4096 one see at_first s
 
   -- with the code's own numbers of inputs and records
   pub records-read : header_reply is_trace 4096 s ≡ 0 → {S n : ℕ} {b : Bool} → S ≡ header_inputs s → b ≡ tells_bound (header_version s)
-      → n ≡ header_count s → {off off' : List ℕ} {r : Result ℕ Code.Refusal} → ReadRecords s S b n off off' r → ReadTrace s off off' r
+      → n ≡ header_count s → {off off' : List ℕ} {r : Result ℕ Unread} → ReadRecords s S b n off off' r → ReadTrace s off off' r
   unfolding read_trace
   records-read h {S} {n} {b} i t e {off} {off'} {r} w = Reading.records-read is_trace 4096 one see at_first s h
       (subst (λ n. ReadRecords s (header_inputs s) (tells_bound (header_version s)) n off off' r) e
       (subst (λ b. ReadRecords s (header_inputs s) b n off off' r) t (subst (λ S. ReadRecords s S b n off off' r) i w)))
 
-pub offset-small : {s off off' : List ℕ} {f : Code.Refusal} → ReadTrace s off off' (Err f) → All Byte s → f.offset < 65536
+pub offset-small : {s off off' : List ℕ} {u : Unread} → ReadTrace s off off' (Err u) → All Byte s → u.why.offset < 65536
 unfolding read_trace
 offset-small {s} w = Reading.offset-small is_trace 4096 one see at_first s w
 

@@ -15,7 +15,7 @@ use Rattle.std.specs.Prelude.{Result}
 use Rattle.file.specs.Outcome.{Kind}
 use Rattle.file.specs.File.{input_room, Good, record_of}
 use Rattle.file.specs.Shown as File
-use Rattle.file.specs.declared.Refusal.{Refusal}
+use Rattle.file.specs.declared.Unread.{Unread}
 use Rattle.file.proofs.FileLaws.{same_everywhere}
 use Rattle.trace.specs.declared.read.Action.TheVariants as A
 use Rattle.trace.specs.declared.read.Seen as Code
@@ -47,7 +47,7 @@ module _ {S : ℕ} {b : Bool} {v : Code.Seen} (e : v ≡ first_seen S b) where
       subst (λ v. (v.inputs ≤ input_room) × (length v.assigned ≡ symbol_room)) (sym e) (h, length-replicate symbol_room false)
 
   -- what is read from there is the trace's reading
-  pub first-reads : {s : List ℕ} {n : ℕ} {off off' : List ℕ} {r : Result ℕ Refusal}
+  pub first-reads : {s : List ℕ} {n : ℕ} {off off' : List ℕ} {r : Result ℕ Unread}
       → File.ReadRecords (stmt (v.inputs + 4096)) see s n (seen_in v) off off' r → ReadRecords s S b n off off' r
   first-reads {s} {n} {off} {off'} {r} w =
       subst (λ σ. File.ReadRecords (stmt (S + 4096)) see s n σ off off' r) (none_marked S b symbol_room)

@@ -12,6 +12,7 @@ use Rattle.file.specs.Shown as File
 use Rattle.file.specs.Shown.{reply_of, outcome_of, rest_of, file_count, ReadFile}
 use Rattle.file.specs.declared.Failure.{Failure}
 use Rattle.file.specs.declared.Refusal as Refused
+use Rattle.file.specs.declared.Unread.{Unread}
 use Rattle.trace.specs.declared.Answer.{Answer}
 use Rattle.trace.specs.declared.read.Action.{Action}
 use Rattle.trace.specs.declared.read.Action.TheVariants as A
@@ -48,7 +49,7 @@ abbrev pub test_kind : (code : ℕ) → Kind
 test_kind k = cond (eqb k 3) Assert (cond (eqb k 4) Bound Assume)
 
 -- the reading of the n records after a trace's header
-abbrev pub ReadRecords : (trace : List ℕ) (S : ℕ) (bounds : Bool) (n : ℕ) (before after : List ℕ) → Result ℕ Refused.Refusal → Type 0
+abbrev pub ReadRecords : (trace : List ℕ) (S : ℕ) (bounds : Bool) (n : ℕ) (before after : List ℕ) → Result ℕ Unread → Type 0
 ReadRecords trace S b n before after r = File.ReadRecords (stmt (S + 4096)) see trace n (unseen S b) before after r
 
 -- of a trace's records, how many are read before the first refusal
@@ -56,7 +57,7 @@ abbrev pub stmt_count : (trace : List ℕ) → ℕ
 stmt_count trace = file_count is_trace 4096 (λ head n. stmt (head.inputs + 4096)) see at_first trace
 
 -- the reading of a trace
-abbrev pub ReadTrace : (trace before after : List ℕ) → Result ℕ Refused.Refusal → Type 0
+abbrev pub ReadTrace : (trace before after : List ℕ) → Result ℕ Unread → Type 0
 ReadTrace trace before after r = ReadFile (read_trace trace) (stmt_count trace) trace before after r
 
 -- a trace that is accepted, with its n records' offsets stored

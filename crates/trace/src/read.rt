@@ -12,7 +12,7 @@ ghost use Rattle.trace.specs.Shown.{symbol_room, seen_in, first_seen, ReadTrace}
 use super::{OLD_VERSION, SYMBOL_ROOM, VERSION};
 use expr::{File, number};
 use file::records::Reader;
-use file::{Kind, Reason, Refusal, records};
+use file::{Kind, Reason, Refusal, Unread, records};
 
 // What the version and the statements before a statement allow: inputs and assigned symbols may be read, a symbol from `least` on may be
 // assigned, and `bounds` says whether the bound's tests have a kind of their own.
@@ -131,9 +131,9 @@ fn tells_bound(version: u8) -> bool
     version == VERSION
 }
 
-// Reads any bytes as a trace: the number of its records, with the offsets of all of them stored, or why they are refused, with the offsets
-// of the records before.
-pub fn read_trace(trace: &[u8], offsets: &mut [u16]) -> Result<usize, Refusal>
+// Reads any bytes as a trace: the number of its records, with the offsets of all of them stored, or why they are refused, and the number of
+// the records before, with their offsets stored.
+pub fn read_trace(trace: &[u8], offsets: &mut [u16]) -> Result<usize, Unread>
     requires { 4096 ≤ length offsets.old }
     ensures { ReadTrace trace.now offsets.old offsets.new result }
 {

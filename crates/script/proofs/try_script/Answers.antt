@@ -21,7 +21,7 @@ use Rattle.script.proofs.try_script.Goals as goal
 use Rattle.script.proofs.try_script.Goals.{After-from_residual, In_ok-read_trace}
 
 -- the trace is refused: the error that goes on is the reader's
-handed : (c : After-from_residual) → c.from_residual.result ≡ Err c.in_err-read_trace.field-0.0
+handed : (c : After-from_residual) → c.from_residual.result ≡ Err c.in_err-read_trace.field-0.0.why
 handed c =
     let p = err_from_is_err_and c.from_residual.result c.from_residual.ensures.1 in
     p.1 ∙ ap {B = Result ℕ Refusal} Err p.2

@@ -23,7 +23,8 @@ use Rattle.trace.proofs.Answers.{offset-small, trace_accepted, right-header, is-
 use Rattle.slice.proofs.Answers.{trace_refuses, size_small, no_room, records-room, slice_written}
 use Rattle.file.proofs.CutLaws.{cut-long, ready_cut}
 use Rattle.slice.proofs.try_slice.Goals as goal
-use Rattle.slice.proofs.try_slice.Goals.{After-header_size, After-shared_slice_known-1, After-walk_back-k, After-from_residual, Else-out-total, In_ok-n}
+use Rattle.slice.proofs.try_slice.Goals.{After-header_size, After-shared_slice_known-1, After-walk_back-k, After-from_residual}
+use Rattle.slice.proofs.try_slice.Goals.{Else-out-total, In_ok-n}
 
 bytes : (c : After-shared_slice_known-1) → All Byte c.args.trace.now
 bytes c = all-at Byte c.args.trace.now (λ i h. (c.shared_slice_known-1.given i).fits)
@@ -58,7 +59,7 @@ small c =
     (bytes (goal.at.After-walk_back-k c).After-shared_slice_known-1)
 
 -- the trace is refused: the error that goes on is the reader's
-handed : (c : After-from_residual) → c.from_residual.result ≡ Err c.in_err-n.field-0.0
+handed : (c : After-from_residual) → c.from_residual.result ≡ Err c.in_err-n.field-0.0.why
 handed c =
     let p = err_from_is_err_and c.from_residual.result c.from_residual.ensures.1 in
     p.1 ∙ ap {B = Result Answer Refusal} Err p.2

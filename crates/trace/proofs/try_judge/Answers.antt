@@ -27,7 +27,7 @@ use Rattle.trace.proofs.try_judge.Goals as goal
 use Rattle.trace.proofs.try_judge.Goals.{After-from_residual, In_ok-n}
 
 -- the trace is refused: the error that goes on is the reader's
-handed : (c : After-from_residual) → c.from_residual.result ≡ Err c.in_err-n.field-0.0
+handed : (c : After-from_residual) → c.from_residual.result ≡ Err c.in_err-n.field-0.0.why
 handed c =
     let p = err_from_is_err_and c.from_residual.result c.from_residual.ensures.1 in
     p.1 ∙ ap {B = Result (Result (Unit {0}) Failure) Refusal} Err p.2

@@ -64,7 +64,7 @@ module _ (c : In_ok-n) where
       omega (arith, mul-le-mul_left (K + 1) m, mul-le-mul_right 1025 k)
 
 -- the table is refused: the error that goes on is the reader's
-handed : (c : After-from_residual) → c.from_residual.result ≡ Err c.in_err-n.field-0.0
+handed : (c : After-from_residual) → c.from_residual.result ≡ Err c.in_err-n.field-0.0.why
 handed c =
     let p = err_from_is_err_and c.from_residual.result c.from_residual.ensures.1 in
     p.1 ∙ ap {B = Result ℕ Refusal} Err p.2

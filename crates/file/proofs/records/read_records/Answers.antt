@@ -14,7 +14,7 @@ pub returns-in_default : goal.returns-in_default
 returns-in_default g c =
     let v = c.loop-k.invariant.0 in
     refuse _ _ _ _ _ _ v c.loop-k-test.true (AtRecord 5)
-    (record_unframed _ _ (frame_none _ c.in_default.ensures)) refl refl (omega arith) v.inside
+    (record_unframed _ _ (frame_none _ c.in_default.ensures)) refl refl (omega arith) v.inside c.no_record.ensures
 
 pub overflow_add-len : goal.overflow_add-len
 overflow_add-len g c =
@@ -55,7 +55,7 @@ loop-k-preserved g c =
     )
 
 pub returns-then-at-s : goal.returns-then-at-s
-returns-then-at-s g c = spare _ _ _ _ _ _ c.loop-k.invariant.0 (omega arith) c.if-at-s.true
+returns-then-at-s g c = spare _ _ _ _ _ _ c.loop-k.invariant.0 (omega arith) c.if-at-s.true c.no_record-then-at-s.ensures
 
 pub returns : goal.returns
 returns g c = done _ _ _ _ _ _ c.loop-k.invariant.0 (omega arith) c.if-at-s.false

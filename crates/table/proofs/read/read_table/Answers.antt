@@ -7,7 +7,7 @@ use lib.ListN.{length}
 use Rattle.expr.specs.Lists.{all-at}
 use Rattle.expr.specs.Number.{Byte}
 use Rattle.file.specs.File.{header_reply}
-use Rattle.file.specs.declared.Refusal.{Refusal}
+use Rattle.file.specs.declared.Unread.{Unread}
 use Rattle.file.proofs.FileLaws.{Header, header_is, header-known}
 use Rattle.std.specs.Prelude.{Result, Err}
 use Rattle.std.proofs.lemmas.Result.{err_from_is_err_and}
@@ -23,7 +23,7 @@ returns-in_err-header_reply c =
     let table = c.args.table.now in
     let off = c.args.offsets.now in
     let p = err_from_is_err_and c.from_residual.result c.from_residual.ensures.1 in
-    subst (ReadTable table off off) (sym (p.1 ∙ ap {B = Result ℕ Refusal} Err p.2))
+    subst (ReadTable table off off) (sym (p.1 ∙ ap {B = Result ℕ Unread} Err p.2))
     (header_read table c.in_err-header_reply.field-0.0
     (header-known is_table 1024 table (c.is_table-known.ensures ∙ ap is_table c.version_of.ensures) c.in_err-header_reply.ensures) off)
 

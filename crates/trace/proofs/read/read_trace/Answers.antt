@@ -9,7 +9,7 @@ use Rattle.std.proofs.lemmas.Result.{err_from_is_err_and}
 use Rattle.expr.specs.Lists.{all-at}
 use Rattle.expr.specs.Number.{Byte}
 use Rattle.file.specs.File.{header_version, header_reply}
-use Rattle.file.specs.declared.Refusal.{Refusal}
+use Rattle.file.specs.declared.Unread.{Unread}
 use Rattle.file.proofs.FileLaws.{inputs-room, Header, header_is, header-known}
 use Rattle.file.proofs.ReadingLaws.{short}
 use Rattle.trace.specs.Trace.{is_trace, tells_bound}
@@ -24,7 +24,7 @@ returns-in_err-header_reply c =
     let s = c.args.trace.now in
     let off = c.args.offsets.now in
     let p = err_from_is_err_and c.from_residual.result c.from_residual.ensures.1 in
-    subst (ReadTrace s off off) (sym (p.1 ∙ ap {B = Result ℕ Refusal} Err p.2))
+    subst (ReadTrace s off off) (sym (p.1 ∙ ap {B = Result ℕ Unread} Err p.2))
     (header_read s c.in_err-header_reply.field-0.0
     (header-known is_trace 4096 s (c.is_trace.ensures ∙ ap is_trace c.version_of-version.ensures) c.in_err-header_reply.ensures) off)
 
