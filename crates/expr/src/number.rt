@@ -2,17 +2,11 @@
 ghost use Rattle.std.specs.Prelude.{◌≡◌, ◌+◌, ◌<◌, ◌≤◌, length, drop};
 ghost use Rattle.expr.specs.Number.{number_of};
 
-pub fn wide(b: u8) -> usize
-    ensures { (result ≡ b) × (result < 256) }
-{
-    usize::from(b)
-}
-
 pub fn byte_at(s: &[u8], at: usize) -> usize
     requires { at + 1 ≤ length s.now }
     ensures { (result ≡ number_of 1 (drop at s.now)) × (result < 256) }
 {
-    wide(s[at])
+    usize::from(s[at])
 }
 
 pub fn two_at(s: &[u8], at: usize) -> usize

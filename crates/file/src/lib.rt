@@ -177,7 +177,7 @@ pub fn inputs_of(s: &[u8]) -> usize
     requires { header_size s.now ≤ length s.now }
     ensures { result ≡ header_inputs s.now }
 {
-    number::wide(s[3])
+    usize::from(s[3])
 }
 
 pub fn count_of(s: &[u8]) -> usize

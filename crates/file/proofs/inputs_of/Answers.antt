@@ -8,4 +8,4 @@ bounds-s-3 c = omega (arith, c.requires)
 
 pub returns : goal.returns
 unfolding header_inputs
-returns c = c.wide.ensures.0
+returns c = c.from.ensures

@@ -6,7 +6,9 @@ use Rattle.expr.proofs.number.word_at.Goals as goal
 
 two : (s : List ℕ) (i j : ℕ) → i + 2 ≤ length s → i + 1 ≡ j → number_of 2 (drop i s) ≡ get_or s i 0 * 256 + get_or s j 0
 two s i j h e =
-    go (drop i s) (omega (arith, length-drop i s)) (get_or-drop i s 0 0 ∙ ap (λ k. get_or s k 0) (let q : i + 0 ≡ i = omega arith in q)) (get_or-drop i s 1 0 ∙ ap (λ k. get_or s k 0) e)
+    go (drop i s) (omega (arith, length-drop i s))
+    (get_or-drop i s 0 0 ∙ ap (λ k. get_or s k 0) (let q : i + 0 ≡ i = omega arith in q))
+    (get_or-drop i s 1 0 ∙ ap (λ k. get_or s k 0) e)
   where
     go : (bs : List ℕ) → 2 ≤ length bs → get_or bs 0 0 ≡ get_or s i 0 → get_or bs 1 0 ≡ get_or s j 0
         → number_of 2 bs ≡ get_or s i 0 * 256 + get_or s j 0
