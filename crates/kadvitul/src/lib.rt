@@ -1,5 +1,5 @@
 // The calls of the C interface, one number of an answer for each. `kadvitul_c` exports them under these names.
-#![tactic(auto)]
+#![tactic(auto, unfolding(file::specs::File::input_room))]
 
 ghost use Rattle.std.specs.Prelude.{◌≡◌, ◌+◌, ◌/◌, ◌*◌, length};
 ghost use Rattle.file.specs.File.{input_room};

@@ -12,12 +12,18 @@ use Rattle.script.specs.Shown.{unary_front, unary_back, binary_front, binary_bac
 
 -- ---- their letters are few
 
-pub unary-few : (o : Unary) → (length (ascii (unary_front o)) ≤ 8) × (length (ascii (unary_back o)) ≤ 35)
+unary-few : (o : Unary) → (length (ascii (unary_front o)) ≤ 8) × (length (ascii (unary_back o)) ≤ 35)
 unary-few Not = (omega arith, omega arith)
 unary-few Neg = (omega arith, omega arith)
 unary-few Zero = (omega arith, omega arith)
 
-pub binary-few : (o : Binary) → (length (ascii (binary_front o)) ≤ 12) × (length (ascii (binary_back o)) ≤ 24)
+pub unary_ahead : (o : Unary) → length (ascii (unary_front o)) ≤ 8
+unary_ahead o = (unary-few o).0
+
+pub unary_behind : (o : Unary) → length (ascii (unary_back o)) ≤ 35
+unary_behind o = (unary-few o).1
+
+binary-few : (o : Binary) → (length (ascii (binary_front o)) ≤ 12) × (length (ascii (binary_back o)) ≤ 24)
 binary-few Add = (omega arith, omega arith)
 binary-few Sub = (omega arith, omega arith)
 binary-few Mul = (omega arith, omega arith)
@@ -32,6 +38,12 @@ binary-few Equal = (omega arith, omega arith)
 binary-few Ult = (omega arith, omega arith)
 binary-few Ule = (omega arith, omega arith)
 binary-few Slt = (omega arith, omega arith)
+
+pub binary_ahead : (o : Binary) → length (ascii (binary_front o)) ≤ 12
+binary_ahead o = (binary-few o).0
+
+pub binary_behind : (o : Binary) → length (ascii (binary_back o)) ≤ 24
+binary_behind o = (binary-few o).1
 
 -- ---- parts of text that meet
 

@@ -16,6 +16,9 @@ use Rattle.script.specs.ScriptText.{slot_name, term_text}
 use Rattle.script.specs.Shown.{binding}
 use Rattle.script.proofs.Letters.{replicate-end}
 
+-- what the check of a token says of it
+pub ruleset fitting = (fits-is)
+
 -- ---- the bindings, then x0, then a parenthesis for each
 
 abbrev openings : (d : ℕ) → List Token → List ℕ

@@ -12,7 +12,8 @@ use Rattle.file.specs.Shown.{listed}
 use Rattle.trace.specs.Trace.{Stmt, Assign, Test, read_trace}
 use Rattle.trace.specs.Asserts.{asserted}
 use Rattle.trace.specs.AssertsLaws.{asserted-few, asserted-take}
-use Rattle.trace.proofs.Passes.{Known}
+use Rattle.trace.proofs.Passes.{Known, known}
+use Rattle.file.proofs.FileLaws.{symbols_in_two-bytes}
 use Rattle.write.specs.Ascii.{ascii}
 use Rattle.script.specs.Shown.{Declarations, Equations, Tests}
 use Rattle.script.specs.Smt.{Formula}
@@ -126,3 +127,9 @@ pub claim_are : (ts : List Stmt) (m t : ℕ) → m ≡ length (asserted ts) → 
 claim_are ts m t p q =
     ap₂ (λ us t. ascii "(assert\n" ++ pieces Tests us ++ ascii "false" ++ replicate {A = ℕ} t 41)
     (ap (λ m. take m ts) p ∙ asserted-take ts) q
+
+-- ---- what keeps the definitions' and the claim's letters few
+
+pub ruleset definitions = (known, symbols_in_two-bytes)
+
+pub ruleset claims = (known, last-inside, tests-inside)

@@ -22,6 +22,7 @@ use trace::read;
 pub use write::Written as Answer;
 
 // Everything before the last assertion, from the buffer's first byte: all declarations and equations.
+#[tactic(auto, using(crate::proofs::Wholes::definitions))]
 fn put_definitions(trace: &[u8], n: usize, out: &mut [u8]) -> usize
     requires { (is_accepted (read_trace trace.now) ≡ true) × (n ≡ header_count trace.now) }
     ensures { Wrote out.old 0 (definitions_text (read_trace trace.now)) out.new result
@@ -34,6 +35,7 @@ fn put_definitions(trace: &[u8], n: usize, out: &mut [u8]) -> usize
 }
 
 // The last assertion: the tests up to the last Assert.
+#[tactic(auto, using(crate::proofs::Wholes::claims))]
 fn put_claim(trace: &[u8], n: usize, out: &mut [u8], at: usize) -> usize
     requires { (is_accepted (read_trace trace.now) ≡ true) × (n ≡ header_count trace.now) × (at ≤ 20000000) }
     ensures { Wrote out.old at (claim_text (listed (read_trace trace.now))) out.new result

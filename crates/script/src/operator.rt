@@ -62,6 +62,7 @@ fn binary_back(o: Binary) -> &'static [u8]
 }
 
 // The word that an operator pushes onto k words.
+#[tactic(auto, using(crate::proofs::Operators::unary_ahead, crate::proofs::Operators::unary_behind))]
 pub fn put_unary(o: Unary, k: usize, out: &mut [u8], at: usize) -> usize
     requires { (k < 17) × (at + 61 < 2 ^ 64) }
     ensures { Wrote out.old at (term_text (token_term k (Un o))) out.new result × (result ≤ at + 61) }
@@ -71,6 +72,7 @@ pub fn put_unary(o: Unary, k: usize, out: &mut [u8], at: usize) -> usize
     write::fit_part(unary_back(o), out, b)
 }
 
+#[tactic(auto, using(crate::proofs::Operators::binary_ahead, crate::proofs::Operators::binary_behind))]
 pub fn put_binary(o: Binary, k: usize, out: &mut [u8], at: usize) -> usize
     requires { (k < 17) × (at + 62 < 2 ^ 64) }
     ensures { Wrote out.old at (term_text (token_term k (Bin o))) out.new result × (result ≤ at + 62) }

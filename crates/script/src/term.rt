@@ -29,6 +29,7 @@ fn put_word(t: Token, k: usize, out: &mut [u8], at: usize) -> usize
 }
 
 // The binding of a token where d words are held.
+#[tactic(auto, using(crate::proofs::Terms::fitting))]
 fn put_token(t: Token, d: usize, out: &mut [u8], at: usize) -> usize
     requires { (fits (below symbol_room) 17 d t ≡ true) × (at + 130 < 2 ^ 64) }
     ensures { Wrote out.old at (binding d t) out.new result × (result ≤ at + 128) }

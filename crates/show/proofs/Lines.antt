@@ -138,3 +138,14 @@ told_text s t S n p q =
     ap (λ S. first_line S n ++ stmt_lines (listed (read_trace s))) p
     ∙ ap (λ n. first_line (header_inputs s) n ++ stmt_lines (listed (read_trace s))) q
     ∙ t.text
+
+-- what the header of an accepted trace says
+module _ (s : List ℕ) (h : is_accepted (read_trace s) ≡ true) where
+  pub told_long : header_size s ≤ length s
+  told_long = (told s h).long
+
+  pub told_inputs : header_inputs s ≤ input_room
+  told_inputs = (told s h).inputs
+
+  pub told_count : header_count s ≤ 4096
+  told_count = (told s h).count

@@ -64,6 +64,7 @@ fn put_lines(trace: &[u8], n: usize, out: &mut [u8], to: usize) -> usize
 }
 
 // The text of an accepted trace, from the buffer's first byte.
+#[tactic(auto, using(crate::proofs::Lines::told_long, crate::proofs::Lines::told_inputs, crate::proofs::Lines::told_count))]
 pub fn put_slice(trace: &[u8], out: &mut [u8]) -> usize
     requires { is_accepted (read_trace trace.now) ≡ true }
     ensures { Wrote out.old 0 (trace_text (read_trace trace.now)) out.new result × (result ≤ 393210) }

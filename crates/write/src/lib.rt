@@ -84,6 +84,7 @@ pub fn put_symbol(s: usize, out: &mut [u8], at: usize) -> usize
 }
 
 // A file's header, from the buffer's first byte.
+#[tactic(auto, unfolding(file::specs::File::head_size, file::specs::File::inputs_limit, file::specs::File::input_room))]
 pub fn put_header(version: u8, total: usize, inputs: usize, n: usize, out: &mut [u8]) -> usize
     requires { (head_size version ≤ length out.old) × (inputs ≤ inputs_limit version) }
     ensures { Wrote out.old 0 (header (record { version = version; inputs = inputs }) total n) out.new result

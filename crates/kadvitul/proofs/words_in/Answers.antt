@@ -1,7 +1,6 @@
-use native.Mathlib.Omega.{arith}
+use Rattle.std.proofs.Common.{arith}
 use Rattle.file.specs.File.{input_room}
 use Rattle.kadvitul.specs.InterfaceLaws.{no_words, all_words}
-use borrow.Author.Rules.{rules}
 use Rattle.kadvitul.proofs.words_in.Goals as goal
 
 pub returns-then-len-count : goal.returns-then-len-count
@@ -11,10 +10,6 @@ returns-then-len-count c = no_words c.requires (λ k l e. omega (arith, c.if-len
 pub returns-then-count-gt-INPUT_ROOM : goal.returns-then-count-gt-INPUT_ROOM
 unfolding input_room
 returns-then-count-gt-INPUT_ROOM c = no_words c.requires (λ k l e. omega arith)
-
-pub decode-requires : goal.decode-requires
-unfolding input_room
-decode-requires c = search rules
 
 pub returns : goal.returns
 unfolding input_room

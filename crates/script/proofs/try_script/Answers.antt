@@ -54,7 +54,7 @@ measure-requires c = ap is_accepted (accepted (goal.at.measure-requires c).In_ok
 pub returns-then-out-measure-clause-answer : goal.returns-then-out-measure-clause-answer
 returns-then-out-measure-clause-answer c =
     no_room _ _ _ _ (accepted (goal.at.returns-then-out-measure-clause-answer c).In_ok-read_trace)
-    (omega (arith, c.measure.ensures, c.if-out-measure.true)) _ (ap (λ f. Code.written (Err f)) c.into.ensures)
+    (grind arith) _ (ap (λ f. Code.written (Err f)) c.into.ensures)
 
 pub put_script-requires : goal.put_script-requires
 put_script-requires c = ap is_accepted (accepted (goal.at.put_script-requires c).In_ok-read_trace)
@@ -62,4 +62,4 @@ put_script-requires c = ap is_accepted (accepted (goal.at.put_script-requires c)
 pub returns-clause-answer : goal.returns-clause-answer
 returns-clause-answer c =
     written _ _ _ _ (accepted (goal.at.returns-clause-answer c).In_ok-read_trace)
-    (omega (arith, c.measure.ensures, c.if-out-measure.false)) c.put_script.ensures.0
+    (grind arith) c.put_script.ensures.0

@@ -6,7 +6,4 @@ use Rattle.write.specs.DecimalLaws.{digit_is}
 use Rattle.write.proofs.fit_decimal.Goals as goal
 
 pub returns-then-v-lt10 : goal.returns-then-v-lt10
-returns-then-v-lt10 c =
-    let fit-byte = c.fit_byte in
-    let if1 = c.if-v-lt10 in
-    (wrote_as (sym (digit_is _ if1.true)) fit-byte.ensures, omega (arith, fit-byte.ensures.next))
+returns-then-v-lt10 c = (wrote_as (sym (digit_is _ c.if-v-lt10.true)) c.fit_byte.ensures, grind arith)

@@ -5,10 +5,5 @@ use Rattle.script.proofs.line.put_declaration.Goals as goal
 pub returns : goal.returns
 returns c = (
   (c.fit_part-a.ensures then c.put_name-b.ensures.0) then c.fit_part.ensures,
-  omega (
-    arith,
-    c.fit_part-a.ensures.next,
-    c.put_name-b.ensures.1,
-    c.fit_part.ensures.next,
-  ),
+  grind arith,
 )

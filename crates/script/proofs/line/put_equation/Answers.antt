@@ -5,12 +5,5 @@ use Rattle.script.proofs.line.put_equation.Goals as goal
 pub returns : goal.returns
 returns c = (
   (((c.fit_part-a.ensures then c.put_name-b.ensures.0) then c.fit_byte-c.ensures) then c.put_expr-d.ensures.0) then c.fit_part.ensures,
-  omega (
-    arith,
-    c.fit_part-a.ensures.next,
-    c.put_name-b.ensures.1,
-    c.fit_byte-c.ensures.next,
-    c.put_expr-d.ensures.1,
-    c.fit_part.ensures.next,
-  ),
+  grind arith,
 )

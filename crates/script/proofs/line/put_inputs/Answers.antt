@@ -7,10 +7,7 @@ pub loop-k-init : goal.loop-k-init
 loop-k-init c = declaring_start _ _ _
 
 pub put_declaration-to-requires : goal.put_declaration-to-requires
-put_declaration-to-requires c = (
-  omega (arith, c.loop-k-test.true, c.requires.0, symbols_in_two-bytes),
-  omega (arith, c.loop-k.invariant.little, c.loop-k-test.true, c.requires.0, c.requires.1, symbols_in_two-bytes),
-)
+put_declaration-to-requires c = (grind (arith, symbols_in_two-bytes), grind (arith, symbols_in_two-bytes))
 
 pub loop-k-preserved : goal.loop-k-preserved
 loop-k-preserved c =

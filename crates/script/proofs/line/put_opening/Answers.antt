@@ -5,7 +5,7 @@ use Rattle.script.proofs.line.put_opening.Goals as goal
 
 pub returns-in-Assert : goal.returns-in-Assert
 returns-in-Assert c =
-    (wrote_as (opening-assert _ c.in-Assert.is) c.fit_part.ensures, omega (arith, c.fit_part.ensures.next))
+    (wrote_as (opening-assert _ c.in-Assert.is) c.fit_part.ensures, grind arith)
 
 pub returns-in_default : goal.returns-in_default
 returns-in_default c =

@@ -24,7 +24,7 @@ put_assign-requires g c =
     let small = (acts-assign h _ acts).1 in (
       omega (arith, small),
       expr-is-whole h c.stmt_at-stmt.ensures.2,
-      omega (arith, assign-length h c.stmt_at-stmt.ensures.2 (acts-code c.args.trace.now c.args.at _ acts).0, c.requires.2),
+      grind (arith, assign-length h c.stmt_at-stmt.ensures.2 (acts-code c.args.trace.now c.args.at _ acts).0),
     )
 
 pub returns-in-Assign : goal.returns-in-Assign
@@ -32,7 +32,7 @@ returns-in-Assign g c =
     let h = here g (goal.at.returns-in-Assign g c).Start in
     let acts = sym c.stmt_at-stmt.ensures.1 ∙ c.in-Assign.is in (
       wrote_as (assign-piece h c.stmt_at-stmt.ensures.2 _ acts) c.put_assign.ensures.0,
-      omega (arith, assign-length h c.stmt_at-stmt.ensures.2 (acts-code c.args.trace.now c.args.at _ acts).0, c.put_assign.ensures.1),
+      grind (arith, assign-length h c.stmt_at-stmt.ensures.2 (acts-code c.args.trace.now c.args.at _ acts).0),
     )
 
 pub put_test-requires : goal.put_test-requires
@@ -40,7 +40,7 @@ put_test-requires g c =
     let h = here g (goal.at.put_test-requires g c).Start in
     let acts = sym c.stmt_at-stmt.ensures.1 ∙ c.in-Test.is in (
       expr-is-whole h c.stmt_at-stmt.ensures.2,
-      omega (arith, test-length h c.stmt_at-stmt.ensures.2 (tests-code c.args.trace.now c.args.at _ acts).0, c.requires.2),
+      grind (arith, test-length h c.stmt_at-stmt.ensures.2 (tests-code c.args.trace.now c.args.at _ acts).0),
     )
 
 pub returns-in-Test : goal.returns-in-Test
@@ -48,5 +48,5 @@ returns-in-Test g c =
     let h = here g (goal.at.returns-in-Test g c).Start in
     let acts = sym c.stmt_at-stmt.ensures.1 ∙ c.in-Test.is in (
       wrote_as (test-piece h c.stmt_at-stmt.ensures.2 _ acts) c.put_test.ensures.0,
-      omega (arith, test-length h c.stmt_at-stmt.ensures.2 (tests-code c.args.trace.now c.args.at _ acts).0, c.put_test.ensures.1),
+      grind (arith, test-length h c.stmt_at-stmt.ensures.2 (tests-code c.args.trace.now c.args.at _ acts).0),
     )

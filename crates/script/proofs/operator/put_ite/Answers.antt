@@ -8,14 +8,5 @@ returns c = (
   wrote_as (ite-text _)
       ((((((c.fit_part-a.ensures then c.put_name-b.ensures.0) then c.fit_part-c.ensures) then c.put_name-d.ensures.0) then
       c.fit_byte-e.ensures) then c.put_name-f.ensures.0) then c.fit_byte.ensures),
-  omega (
-    arith,
-    c.fit_part-a.ensures.next,
-    c.put_name-b.ensures.1,
-    c.fit_part-c.ensures.next,
-    c.put_name-d.ensures.1,
-    c.fit_byte-e.ensures.next,
-    c.put_name-f.ensures.1,
-    c.fit_byte.ensures.next,
-  ),
+  grind arith,
 )

@@ -27,37 +27,28 @@ loop-t-init c =
 pub put_token-to-requires : goal.put_token-to-requires
 put_token-to-requires c =
     let v = c.loop-t.invariant in
-    let k = few (goal.at.put_token-to-requires c).After-into_iter-t-iterator in
-    (putting_fits v c.in-Some.ensures.steps, omega (arith, v.little, c.requires.1, k, putting_more v c.in-Some.ensures.steps))
+    let e = c.in-Some.ensures.steps in
+    (putting_fits v e, grind (arith, few (goal.at.put_token-to-requires c).After-into_iter-t-iterator, putting_more v e))
 
 pub overflow_sub-depth : goal.overflow_sub-depth
-overflow_sub-depth c = omega (arith, c.pops.ensures, (fit c.loop-t.invariant c.in-Some.ensures.steps).enough)
+overflow_sub-depth c = grind (arith, (fit c.loop-t.invariant c.in-Some.ensures.steps).enough)
 
 pub overflow_add-count : goal.overflow_add-count
 overflow_add-count c = record {
   fits =
-      omega (
-        arith,
-        c.requires.1,
-        few (goal.at.overflow_add-count c).After-into_iter-t-iterator,
-        putting_more c.loop-t.invariant c.in-Some.ensures.steps,
-      );
+      grind (arith, few (goal.at.overflow_add-count c).After-into_iter-t-iterator, putting_more c.loop-t.invariant c.in-Some.ensures.steps);
 }
 
 pub loop-t-preserved : goal.loop-t-preserved
-loop-t-preserved c = put_on c.loop-t.invariant c.in-Some.ensures.steps (omega (arith, c.pops.ensures)) c.put_token-to.ensures
+loop-t-preserved c = put_on c.loop-t.invariant c.in-Some.ensures.steps (grind arith) c.put_token-to.ensures
 
 pub put_name-a-requires : goal.put_name-a-requires
-put_name-a-requires c =
-    let v = c.loop-t.invariant in
-    (omega arith, omega (arith, v.little, v.count, c.requires.1, few (goal.at.put_name-a-requires c).After-into_iter-t-iterator))
+put_name-a-requires c = (omega arith, grind (arith, few (goal.at.put_name-a-requires c).After-into_iter-t-iterator))
 
 pub put_closings-requires : goal.put_closings-requires
-put_closings-requires c =
-    let v = c.loop-t.invariant in
-    omega (arith, v.little, v.count, c.requires.1, c.put_name-a.ensures.1, few (goal.at.put_closings-requires c).After-into_iter-t-iterator)
+put_closings-requires c = grind (arith, few (goal.at.put_closings-requires c).After-into_iter-t-iterator)
 
 pub returns : goal.returns
 returns c =
     let k = put_all c.loop-t.invariant c.in-None.ensures.steps.0 c.put_name-a.ensures c.put_closings.ensures in
-    (k.0, omega (arith, k.1, bytes (goal.at.returns c).After-into_iter-t-iterator))
+    (k.0, grind (arith, bytes (goal.at.returns c).After-into_iter-t-iterator))

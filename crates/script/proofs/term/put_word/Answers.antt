@@ -8,4 +8,4 @@ use Rattle.script.proofs.term.put_word.Goals as goal
 pub put_name-requires : goal.put_name-requires
 put_name-requires c =
     let known = subst (λ t. reads_only (below symbol_room) t ≡ true) c.in-Symbol.is c.requires.0 in
-    (omega (arith, ltb-true c.in-Symbol.s symbol_room known, symbols-few), omega (arith, c.requires.2))
+    (omega (arith, ltb-true c.in-Symbol.s symbol_room known, symbols-few), grind arith)

@@ -4,4 +4,4 @@ use Rattle.script.proofs.text.put_name.Goals as goal
 
 pub returns : goal.returns
 returns c =
-    (c.fit_byte-a.ensures then c.fit_decimal.ensures.0, omega (arith, c.fit_byte-a.ensures.next, c.fit_decimal.ensures.1))
+    (c.fit_byte-a.ensures then c.fit_decimal.ensures.0, grind arith)

@@ -15,13 +15,5 @@ unfolding input_room
 returns c = (
   (((c.fit_part-a.ensures then c.fit_decimal-b.ensures.0) then c.fit_part-c.ensures) then c.fit_decimal-d.ensures.0)
       then c.fit_part.ensures,
-  omega (
-    arith,
-    two_digits c.args.inputs (omega (arith, c.requires.0)),
-    c.fit_part-a.ensures.next,
-    c.fit_decimal-b.ensures.0.next,
-    c.fit_part-c.ensures.next,
-    c.fit_decimal-d.ensures.1,
-    c.fit_part.ensures.next,
-  ),
+  grind (arith, two_digits c.args.inputs (grind arith)),
 )

@@ -60,15 +60,7 @@ returns-in-Assign c = (
       (sym c.stmt_at-stmt.ensures.1 ∙ c.in-Assign.is))
       ((((c.fit_decimal-a.ensures.0 then c.fit_part-b.ensures) then c.fit_decimal-c.ensures.0) then c.put_tokens-d.ensures.0) then
       c.fit_part.ensures),
-  omega (
-    arith,
-    c.fit_decimal-a.ensures.1,
-    c.fit_part-b.ensures.next,
-    c.fit_decimal-c.ensures.1,
-    c.put_tokens-d.ensures.1,
-    c.fit_part.ensures.next,
-    assigns (goal.at.returns-in-Assign c).In-Assign,
-  ),
+  grind (arith, assigns (goal.at.returns-in-Assign c).In-Assign),
 )
 
 pub put_kind-b-requires : goal.put_kind-b-requires
@@ -88,12 +80,5 @@ returns-in-Test c = (
   wrote_as (test-line (here (goal.at.returns-in-Test c).Start) c.stmt_at-stmt.ensures.2 _ _ c.stmt_at-stmt.ensures.0
       (sym c.stmt_at-stmt.ensures.1 ∙ c.in-Test.is))
       (((c.fit_decimal-a.ensures.0 then c.put_kind-b.ensures.0) then c.put_tokens-c.ensures.0) then c.fit_part-in-Test.ensures),
-  omega (
-    arith,
-    c.fit_decimal-a.ensures.1,
-    c.put_kind-b.ensures.1,
-    c.put_tokens-c.ensures.1,
-    c.fit_part-in-Test.ensures.next,
-    tests (goal.at.returns-in-Test c).In-Test,
-  ),
+  grind (arith, tests (goal.at.returns-in-Test c).In-Test),
 )

@@ -6,12 +6,5 @@ pub returns : goal.returns
 returns c = (
   (((c.fit_part-a.ensures then c.fit_decimal-b.ensures.0) then c.fit_part-c.ensures) then c.fit_decimal-d.ensures.0)
       then c.fit_part.ensures,
-  omega (
-    arith,
-    c.fit_part-a.ensures.next,
-    c.fit_decimal-b.ensures.1,
-    c.fit_part-c.ensures.next,
-    c.fit_decimal-d.ensures.1,
-    c.fit_part.ensures.next,
-  ),
+  grind arith,
 )

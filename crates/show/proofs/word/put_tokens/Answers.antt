@@ -25,7 +25,7 @@ pub put_token-to-requires : goal.put_token-to-requires
 put_token-to-requires c = (
   putting_known c.loop-t.invariant c.in-Some.ensures.steps,
   putting_room c.loop-t.invariant c.in-Some.ensures.steps
-      (omega (arith, c.requires.1, bytes (goal.at.put_token-to-requires c).After-into_iter-t-iterator)),
+      (grind (arith, bytes (goal.at.put_token-to-requires c).After-into_iter-t-iterator)),
 )
 
 pub loop-t-preserved : goal.loop-t-preserved
