@@ -63,7 +63,7 @@ pub fn write_trace(table: &[u8], bound: u64, out: &mut [u8]) -> Answer
 }
 
 // The length of a trace that is written, or why there is none.
-fn try_write(table: &[u8], bound: u64, out: &mut [u8]) -> Result<u32, Refusal>
+pub fn try_write(table: &[u8], bound: u64, out: &mut [u8]) -> Result<u32, Refusal>
     ensures answer { TraceWritten table.now bound out.old out.new (written result) }
     ensures small { IfErr result (λ why. why.offset < 2 ^ 32) }
 {

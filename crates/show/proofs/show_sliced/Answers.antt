@@ -27,8 +27,8 @@ show_trace-requires c =
     ap (λ s. is_accepted (read_trace s)) (in_buffer (goal.at.show_trace-requires c).After-slice_trace-s).those
     ∙ (slice_kept (goal.at.show_trace-requires c).After-shared_slice_known-1).accepted
 
-pub returns : goal.returns
-returns c =
-    fitted_as (ap (λ s. trace_text (read_trace s)) (in_buffer (goal.at.returns c).After-slice_trace-s).those
-    ∙ (slice_kept (goal.at.returns c).After-shared_slice_known-1).text)
-    c.show_trace.ensures
+pub returns-clause-text : goal.returns-clause-text
+returns-clause-text c =
+    fitted_as (ap (λ s. trace_text (read_trace s)) (in_buffer (goal.at.returns-clause-text c).After-slice_trace-s).those
+    ∙ (slice_kept (goal.at.returns-clause-text c).After-shared_slice_known-1).text)
+    c.show_trace.ensures.text
