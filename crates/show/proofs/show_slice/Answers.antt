@@ -1,11 +1,6 @@
 -- Each `return` cites the law of the way to it (`proofs/Whole.antt`).
-use Prim.Native.Nat.{ℕ, ◌-◌, ◌≤◌, ◌<◌}
-use native.Mathlib.Omega.{arith}
-use mathlib.Core.Path.{◌≡◌, sym, ap, ◌∙◌, subst}
-use mathlib.Core.Bool.{true}
-use mathlib.Core.List.{List}
-use lib.ListN.{length, take, drop, get_or, length-drop}
-use lib.Seq.{take_all}
+use Rattle.std.proofs.Common.{ℕ, ◌-◌, ◌≤◌, ◌<◌, arith, ◌≡◌, sym, ap, ◌∙◌, subst, true, List, length, take, drop, get_or, length-drop}
+use Rattle.std.proofs.Common.{take_all}
 use Rattle.expr.specs.Lists.{all-at, all_drop}
 use Rattle.expr.specs.Number.{Byte}
 use Rattle.file.specs.Shown.{is_accepted}
