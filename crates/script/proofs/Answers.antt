@@ -1,12 +1,7 @@
 -- The answer to writing a script, by the way that the code takes to it: the trace refuses, the buffer is too short, the script is written.
-use Prim.Native.Nat.{ℕ, ◌≤◌, ◌<◌}
-use native.Mathlib.Omega.{arith}
-use mathlib.Core.Path.{◌≡◌, sym, ap, ◌∙◌}
-use mathlib.Core.Bool.{Bool, true, false, cond}
-use mathlib.Core.List.{List}
-use lib.ListN.{length}
+use Rattle.std.proofs.Common.{ℕ, ◌≤◌, ◌<◌, arith, ◌≡◌, sym, ap, ◌∙◌, Bool, true, false, cond, List, length, le-leb}
 use lib.Dec.{leb}
-use borrow.Author.Tests.{le-leb, lt-leb}
+use borrow.Author.Tests.{lt-leb}
 use Rattle.file.specs.File.{Head, Accepted, Refused}
 use Rattle.trace.specs.Trace.{Stmt, read_trace}
 use Rattle.write.specs.Splice.{Wrote, over}

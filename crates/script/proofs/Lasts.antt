@@ -1,10 +1,6 @@
 -- The last Assert: what the statements that are left say of it, or else what those before them said.
-use Prim.Native.Nat.{ℕ, ◌+◌, ◌≤◌, ◌<◌}
-use native.Mathlib.Omega.{arith}
-use mathlib.Core.Path.{◌≡◌, refl, sym, ap, ◌∙◌, subst}
-use mathlib.Core.Bool.{Bool, true, false, cond, ◌||◌}
-use mathlib.Core.List.{List, [], ◌∷◌}
-use lib.ListN.{length, drop}
+use Rattle.std.proofs.Common.{ℕ, ◌+◌, ◌≤◌, ◌<◌, arith, ◌≡◌, refl, sym, ap, ◌∙◌, subst, Bool, true, false, cond, ◌||◌, List, [], ◌∷◌, length}
+use Rattle.std.proofs.Common.{drop}
 use Rattle.expr.specs.Lists.{All}
 use Rattle.expr.specs.Number.{Byte, number_of}
 use Rattle.expr.specs.declared.token.Token.{Token}

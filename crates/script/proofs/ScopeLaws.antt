@@ -1,10 +1,9 @@
 -- The script of an accepted trace is well formed; and what a well-formed script says depends on its declared symbols alone, so an
 -- environment that satisfies it is a solver's model.
 use Rattle.std.specs.Prelude.{ℕ, zero, suc, ◌+◌, ◌-◌, ◌≤◌, ◌<◌, ◌≡◌, Bool, leb}
-use Rattle.std.proofs.Common.{arith, ◌∙◌, eq-eqb, le-leb, ltb-true}
+use Rattle.std.proofs.Common.{arith, ◌∙◌, eq-eqb, le-leb, ltb-true, List, [], ◌∷◌, ◌++◌}
 use Rattle.std.proofs.Math.Path.{refl, ap, ap₂}
 use Rattle.std.proofs.Math.Bool.{true, false, cond, ◌&&◌, ◌||◌}
-use mathlib.Core.List.{List, [], ◌∷◌, ◌++◌}
 use Rattle.std.proofs.Math.Dec.{eqb}
 use Rattle.std.proofs.lemmas.Bool.{eqb-false}
 use Rattle.expr.specs.Lists.{and_both, both_and, or_left, or_right, or_cases}

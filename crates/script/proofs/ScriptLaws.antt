@@ -8,10 +8,9 @@
 -- (`claim-cut`). The values past any stop do solve the equations, since no symbol is assigned twice; and since the equations leave no
 -- choice but that of the inputs, a model's inputs are a valuation for which the trace is unsafe.
 use Rattle.std.specs.Prelude.{ℕ, zero, suc, ◌+◌, ◌≤◌, ◌<◌, ◌≡◌, Bool, false, cond, ◌↔◌, eqb, ltb}
-use Rattle.std.proofs.Common.{arith, add-zero, zero-add, mod-eq_of_lt, ◌∙◌, subst, eqb-true, eq-eqb, ne_eqb, ltb-true}
+use Rattle.std.proofs.Common.{arith, add-zero, zero-add, mod-eq_of_lt, ◌∙◌, subst, eqb-true, eq-eqb, ne_eqb, ltb-true, List, [], ◌∷◌, map}
 use Rattle.std.proofs.Math.Path.{refl, sym, ap, ap₂}
 use Rattle.std.proofs.Math.Bool.{true, not, ◌&&◌, ◌||◌}
-use mathlib.Core.List.{List, [], ◌∷◌, map}
 use Rattle.std.proofs.Math.ListN.{length}
 use Rattle.std.proofs.lemmas.Bool.{eqb-false}
 use Rattle.expr.specs.declared.File.TheVariants.{Trace}

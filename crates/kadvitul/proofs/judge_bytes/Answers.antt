@@ -1,4 +1,4 @@
-use mathlib.Core.Path.{◌∙◌}
+use Rattle.std.proofs.Common.{◌∙◌}
 use Rattle.kadvitul.specs.InterfaceLaws.{judge-words}
 use Rattle.kadvitul.proofs.judge_bytes.Goals as goal
 

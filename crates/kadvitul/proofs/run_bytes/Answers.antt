@@ -1,4 +1,4 @@
-use mathlib.Core.Path.{◌∙◌}
+use Rattle.std.proofs.Common.{◌∙◌}
 use Rattle.kadvitul.specs.InterfaceLaws.{run-words}
 use Rattle.kadvitul.proofs.run_bytes.Goals as goal
 

@@ -1,6 +1,4 @@
-use Prim.Native.Nat.{ℕ}
-use native.Mathlib.Omega.{arith}
-use mathlib.Core.Path.{sym, subst}
+use Rattle.std.proofs.Common.{ℕ, arith, sym, subst}
 use lib.ListN.{length-replicate}
 use Rattle.print_slice.specs.Buffers.{HoldsEvery}
 use Rattle.print_slice.specs.BuffersLaws.{room_for_all}

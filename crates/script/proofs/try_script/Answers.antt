@@ -1,8 +1,5 @@
 -- Each `return` cites the law of the way to it (`proofs/Answers.antt`); the script is measured, and then written where it fits.
-use native.Mathlib.Omega.{arith}
-use mathlib.Core.Path.{◌≡◌, refl, sym, ap, ◌∙◌, subst}
-use mathlib.Core.List.{List}
-use Prim.Native.Nat.{ℕ, ◌<◌}
+use Rattle.std.proofs.Common.{arith, ◌≡◌, refl, sym, ap, ◌∙◌, subst, List, ℕ, ◌<◌}
 use Rattle.std.specs.Prelude.{◌^◌, Result, Err}
 use Rattle.std.specs.Result.{IfErr}
 use Rattle.std.proofs.lemmas.Result.{err_from_is_err_and}

@@ -1,5 +1,5 @@
 -- The slice stands whole in its buffer, and its text is written.
-use mathlib.Core.Path.{ap, ◌∙◌}
+use Rattle.std.proofs.Common.{ap, ◌∙◌}
 use Rattle.expr.specs.Lists.{all-at}
 use Rattle.expr.specs.Number.{Byte}
 use Rattle.file.specs.Shown.{is_accepted}

@@ -1,4 +1,4 @@
-use borrow.Author.Rules.{rules}
+use Rattle.std.proofs.Common.{rules}
 use Rattle.write.proofs.Decimal.{counting_start, count-on}
 use Rattle.write.proofs.digits.Goals as goal
 

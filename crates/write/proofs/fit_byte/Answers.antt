@@ -1,4 +1,4 @@
-use mathlib.Core.Path.{refl}
+use Rattle.std.proofs.Common.{refl}
 use Rattle.write.specs.Splice.{splice}
 use Rattle.write.proofs.fit_byte.Goals as goal
 

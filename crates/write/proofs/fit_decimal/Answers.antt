@@ -1,6 +1,5 @@
 -- A single digit is a byte.
-use native.Mathlib.Omega.{arith}
-use mathlib.Core.Path.{sym}
+use Rattle.std.proofs.Common.{arith, sym}
 use Rattle.write.specs.SpliceLaws.{wrote_as}
 use Rattle.write.specs.DecimalLaws.{digit_is}
 use Rattle.write.proofs.fit_decimal.Goals as goal

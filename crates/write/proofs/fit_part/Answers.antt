@@ -1,5 +1,5 @@
 -- Where the whole part fits it is copied, and behind the end nothing is stored.
-use mathlib.Core.Path.{refl, sym}
+use Rattle.std.proofs.Common.{refl, sym}
 use Rattle.write.specs.SpliceLaws.{splice-past}
 use Rattle.write.proofs.fit_part.Goals as goal
 

@@ -1,5 +1,5 @@
 use Rattle.write.specs.Splice.{splice}
-use mathlib.Core.Path.{refl}
+use Rattle.std.proofs.Common.{refl}
 use Rattle.write.proofs.put_byte.Goals as goal
 
 pub returns : goal.returns

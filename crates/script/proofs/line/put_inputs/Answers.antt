@@ -1,4 +1,4 @@
-use native.Mathlib.Omega.{arith}
+use Rattle.std.proofs.Common.{arith}
 use Rattle.file.proofs.FileLaws.{symbols_in_two-bytes}
 use Rattle.script.proofs.Pieces.{declaring_start, declaring_on, declaring_end}
 use Rattle.script.proofs.line.put_inputs.Goals as goal

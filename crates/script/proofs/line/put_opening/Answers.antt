@@ -1,4 +1,4 @@
-use native.Mathlib.Omega.{arith}
+use Rattle.std.proofs.Common.{arith}
 use Rattle.write.specs.SpliceLaws.{wrote_as}
 use Rattle.script.proofs.Pieces.{opening-assert, opening-assume}
 use Rattle.script.proofs.line.put_opening.Goals as goal

@@ -1,6 +1,5 @@
 -- An Assign or a test: what it adds, or nothing.
-use native.Mathlib.Omega.{arith}
-use mathlib.Core.Path.{sym, ◌∙◌}
+use Rattle.std.proofs.Common.{arith, sym, ◌∙◌}
 use Rattle.trace.specs.Shown.{symbol_room, loose}
 use Rattle.trace.proofs.Held.{Held, held_at, acts-assign, acts-code, tests-code}
 use Rattle.trace.proofs.Passes.{expr-is-whole, assign-length, test-length}

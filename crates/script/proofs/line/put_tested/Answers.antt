@@ -1,4 +1,4 @@
-use native.Mathlib.Omega.{arith}
+use Rattle.std.proofs.Common.{arith}
 use Rattle.write.specs.SpliceLaws.{◌then◌}
 use Rattle.script.proofs.line.put_tested.Goals as goal
 

@@ -1,6 +1,4 @@
-use Prim.Native.Nat.{ℕ}
-use mathlib.Core.Path.{ap₂}
-use mathlib.Core.List.{List, [], ◌∷◌}
+use Rattle.std.proofs.Common.{ℕ, ap₂, List, [], ◌∷◌}
 use Rattle.write.specs.SpliceLaws.{◌then◌, wrote_as}
 use Rattle.script.proofs.text.put_pair.Goals as goal
 

@@ -1,6 +1,5 @@
 -- S has at most two digits, so the line fits.
-use borrow.Author.Rules.{rules}
-use native.Mathlib.Omega.{arith}
+use Rattle.std.proofs.Common.{rules, arith}
 use Rattle.file.specs.File.{input_room}
 use Rattle.write.specs.SpliceLaws.{◌then◌}
 use Rattle.write.specs.DecimalLaws.{two_digits}

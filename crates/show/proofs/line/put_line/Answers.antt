@@ -1,9 +1,5 @@
 -- An Assign or a test: each has its own text.
-use Prim.Native.Nat.{◌+◌, ◌≤◌}
-use native.Mathlib.Omega.{arith}
-use mathlib.Core.Path.{◌≡◌, sym, ◌∙◌}
-use lib.ListN.{length, drop}
-use borrow.Author.Rules.{rules}
+use Rattle.std.proofs.Common.{◌+◌, ◌≤◌, arith, ◌≡◌, sym, ◌∙◌, length, drop, rules}
 use Rattle.expr.specs.Number.{number_of}
 use Rattle.trace.specs.Shown.{symbol_room, loose}
 use Rattle.trace.proofs.Held.{Held, held_at, acts-assign, acts-code, tests-code}

@@ -1,5 +1,5 @@
 -- A claim has nothing of an Assign.
-use native.Mathlib.Omega.{arith}
+use Rattle.std.proofs.Common.{arith}
 use Rattle.script.proofs.Letters.{wrote_none}
 use Rattle.script.proofs.line.ClaimStep.put_assign.Goals as goal
 

@@ -1,5 +1,5 @@
 -- A test declares nothing.
-use native.Mathlib.Omega.{arith}
+use Rattle.std.proofs.Common.{arith}
 use Rattle.script.proofs.Letters.{wrote_none}
 use Rattle.script.proofs.line.DeclareStep.put_test.Goals as goal
 
