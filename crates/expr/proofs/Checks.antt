@@ -26,7 +26,8 @@ module _ (F : File) (may : ℕ → Bool) (d : ℕ) (s : List ℕ) (i : ℕ) (h :
   no-token q = broken (token-at F may d s i h ∙ ap (λ o. on_token F may d (drop i s) o rest) q)
 
   module _ (t : Token) (q : read_token F (drop i s) ≡ Some t) where
-    at : parse_from F may d 0 (drop i s) ≡ cond (fits may (depth_limit F) d t) (also t (rest (after d t) (operand_count F t))) (Breaks (drop i s))
+    at : parse_from F may d 0 (drop i s)
+        ≡ cond (fits may (depth_limit F) d t) (also t (rest (after d t) (operand_count F t))) (Breaks (drop i s))
     at = token-at F may d s i h ∙ ap (λ o. on_token F may d (drop i s) o rest) q
 
     pub unfit-token : left_by may (depth_limit F) d t ≡ None → checked (length s) (parse_from F may d 0 (drop i s)) ≡ Err i

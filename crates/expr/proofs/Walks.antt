@@ -26,7 +26,8 @@ module _ (F : File) (may : ℕ → Bool) where
     pub read : tokens_from F skip bs ≡ e
     pub ok : Ok may (depth_limit F) d 1 e
 
-  end : (d : ℕ) (e : List Token) (x : Bool) → eqb d 1 ≡ x → cond x (Whole []) (Breaks []) ≡ Whole e → ([] ≡ e) × Ok may (depth_limit F) d 1 e
+  end : (d : ℕ) (e : List Token) (x : Bool) → eqb d 1 ≡ x → cond x (Whole []) (Breaks []) ≡ Whole e
+      → ([] ≡ e) × Ok may (depth_limit F) d 1 e
   end d e true q h = let p : [] ≡ e = cc in (p, subst (Ok may (depth_limit F) d 1) p (eqb-true d 1 q))
   end d e false q h = absurd (let z : ◌≡◌ {A = ℕ} 0 1 = cc in omega arith)
 

@@ -14,14 +14,17 @@ steps : (c : After-split_at) → tokens_from c.args.self.now.file 0 c.args.self.
     ≡ c.in_ok-t.t ∷ tokens_from c.args.self.now.file 0 c.split_at.result.1.now
 steps c =
     tokens-some _ _ _ (read (goal.at.After-split_at c).In_ok-t)
-    ∙ ap {B = List Token} (λ bs. c.in_ok-t.t ∷ tokens_from c.args.self.now.file 0 bs) (sym (c.split_at.ensures.back ∙ rw c.size.ensures refl))
+    ∙ ap {B = List Token} (λ bs. c.in_ok-t.t ∷ tokens_from c.args.self.now.file 0 bs)
+    (sym (c.split_at.ensures.back ∙ rw c.size.ensures refl))
 
 pub returns-then-is_empty-clause-steps : goal.returns-then-is_empty-clause-steps
 returns-then-is_empty-clause-steps c =
-    let e = tokens-empty c.args.self.now.file c.args.self.now.rest.now (eqb-true _ _ (sym c.is_empty.ensures ∙ c.if-is_empty.true)) in (e, e)
+    let e = tokens-empty c.args.self.now.file c.args.self.now.rest.now (eqb-true _ _ (sym c.is_empty.ensures ∙ c.if-is_empty.true)) in
+    (e, e)
 
 pub returns-in_err-t-clause-steps : goal.returns-in_err-t-clause-steps
-returns-in_err-t-clause-steps c = let e = tokens-none c.args.self.now.file c.args.self.now.rest.now (sym c.token_at.ensures ∙ c.in_err-t.was) in
+returns-in_err-t-clause-steps c =
+    let e = tokens-none c.args.self.now.file c.args.self.now.rest.now (sym c.token_at.ensures ∙ c.in_err-t.was) in
     rw c.from_residual.ensures (e, e)
 
 pub split_at-requires : goal.split_at-requires
