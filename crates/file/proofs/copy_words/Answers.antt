@@ -12,4 +12,4 @@ returns c =
     let cells = c.args.cells.now in
     ap (λ r. r ++ drop (length words) cells) c.copy_from_slice.ensures.after
     ∙ ap (λ n. words ++ drop n cells) (let e : length words ≡ 0 + length words = omega arith in e)
-    ∙ sym (sets-eq words cells 0 (omega (arith, c.requires)))
+    ∙ sym (sets-eq words cells 0 (grind arith))

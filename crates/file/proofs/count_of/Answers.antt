@@ -4,7 +4,7 @@ use Rattle.file.proofs.count_of.Goals as goal
 
 pub two_at-requires : goal.two_at-requires
 unfolding head_size
-two_at-requires c = omega (arith, c.requires)
+two_at-requires c = grind arith
 
 pub returns : goal.returns
 unfolding header_count

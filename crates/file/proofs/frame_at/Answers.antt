@@ -24,21 +24,21 @@ pub returns-then-left-len : goal.returns-then-left-len
 returns-then-left-len c =
     let s = c.args in
     let l = length-drop s.at s.s.now in
-    missing (drop s.at s.s.now) (frame-long (drop s.at s.s.now) (omega arith) (omega (arith, c.two_at-len.ensures.0)))
+    missing (drop s.at s.s.now) (frame-long (drop s.at s.s.now) (omega arith) (grind arith))
 
 pub returns-then-len-eq0 : goal.returns-then-len-eq0
 returns-then-len-eq0 c =
     let s = c.args in
     let l = length-drop s.at s.s.now in
     missing (drop s.at s.s.now) (
-    frame-there (drop s.at s.s.now) (omega (arith, c.two_at-len.ensures.0))
+    frame-there (drop s.at s.s.now) (grind arith)
     ∙ sym c.two_at-len.ensures.0 ∙ c.if-len-eq0.true)
 
 pub returns : goal.returns
 returns c =
     let s = c.args in
     let l = length-drop s.at s.s.now in
-    let there = c.two_at-len.ensures.0 ∙ sym (frame-there (drop s.at s.s.now) (omega (arith, c.two_at-len.ensures.0))) in
+    let there = c.two_at-len.ensures.0 ∙ sym (frame-there (drop s.at s.s.now) (grind arith)) in
     ap (λ n. Some n) there
     ∙ sym (ap (λ b. cond b None (Some (frame (drop s.at s.s.now))))
     (ne_eqb (frame (drop s.at s.s.now)) 0 (λ z. c.if-len-eq0.false (there ∙ z))))

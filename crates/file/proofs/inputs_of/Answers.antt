@@ -4,7 +4,7 @@ use Rattle.file.proofs.inputs_of.Goals as goal
 
 pub bounds-s-3 : goal.bounds-s-3
 unfolding head_size
-bounds-s-3 c = omega (arith, c.requires)
+bounds-s-3 c = grind arith
 
 pub returns : goal.returns
 unfolding header_inputs

@@ -4,4 +4,4 @@ use Rattle.file.proofs.total_of.Goals as goal
 
 pub two_at-requires : goal.two_at-requires
 unfolding head_size
-two_at-requires c = omega (arith, c.requires)
+two_at-requires c = grind arith

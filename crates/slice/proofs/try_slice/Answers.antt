@@ -93,14 +93,7 @@ walk_back-k-requires c =
 pub overflow_add-total : goal.overflow_add-total
 overflow_add-total c =
     let place = (goal.at.overflow_add-total c).In_ok-n in
-    omega (
-      arith,
-      small (goal.at.overflow_add-total c).After-walk_back-k,
-      c.header_size.ensures,
-      (head place).total,
-      (head place).long,
-      offsets-fit place,
-    )
+    grind (arith, small (goal.at.overflow_add-total c).After-walk_back-k, (head place).total, (head place).long, offsets-fit place)
 
 pub returns-then-out-total-clause-answer : goal.returns-then-out-total-clause-answer
 returns-then-out-total-clause-answer c =
@@ -123,7 +116,7 @@ module _ (c : Else-out-total) where
 pub put_header_of-to-requires : goal.put_header_of-to-requires
 put_header_of-to-requires c =
     let place = (goal.at.put_header_of-to-requires c).Else-out-total in
-    ((head (a place)).long, omega (arith, (front place).header_size.ensures, c.if-out-total.false), (head (a place)).inputs)
+    ((head (a place)).long, grind (arith, (front place).header_size.ensures), (head (a place)).inputs)
 
 pub copy_kept-requires : goal.copy_kept-requires
 copy_kept-requires c =
@@ -145,7 +138,7 @@ mask_of-mask-requires c =
     let place = (goal.at.mask_of-mask-requires c).Else-out-total in
     let few : header_inputs (s (a place)) ≤ input_room = omega
     (arith, (head (a place)).inputs, inputs-room (header_version (s (a place)))) in
-    omega (arith, few, c.inputs_of.ensures)
+    grind (arith, few)
 
 pub overflow_cast-result : goal.overflow_cast-result
 overflow_cast-result c =

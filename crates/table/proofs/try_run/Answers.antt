@@ -81,7 +81,7 @@ returns-then-words-inputs_of-clause-answer c =
 pub copy_words-requires : goal.copy_words-requires
 unfolding input_room
 copy_words-requires c =
-    omega (arith, c.if-words-inputs_of.false, c.inputs_of.ensures, few-inputs (goal.at.copy_words-requires c).In_ok-n)
+    grind (arith, few-inputs (goal.at.copy_words-requires c).In_ok-n)
 
 pub slice_bounds-offsets-end : goal.slice_bounds-offsets-end
 slice_bounds-offsets-end c = (ready (goal.at.slice_bounds-offsets-end c).In_ok-n).room

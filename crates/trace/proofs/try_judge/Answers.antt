@@ -72,7 +72,7 @@ returns-then-words-inputs_of-clause-answer c =
 pub copy_words-requires : goal.copy_words-requires
 unfolding symbol_room
 copy_words-requires c =
-    omega (arith, c.if-words-inputs_of.false, c.inputs_of.ensures, has_room (goal.at.copy_words-requires c).In_ok-n)
+    grind (arith, has_room (goal.at.copy_words-requires c).In_ok-n)
 
 pub slice_bounds-offsets-end : goal.slice_bounds-offsets-end
 slice_bounds-offsets-end c = (ready (goal.at.slice_bounds-offsets-end c).In_ok-n).room

@@ -20,13 +20,8 @@ inputs_of-inputs-requires c = long _ _ _ (bytes c.args.source) c.args.source.rea
 pub put_header-a-requires : goal.put_header-a-requires
 unfolding trace_version
 put_header-a-requires c =
-    let room : head_size trace_version ≤ length c.args.out.now = omega (arith, c.requires.3, c.requires.4) in
-    let few : c.inputs_of-inputs.result ≤ inputs_limit trace_version = omega (
-      arith,
-      c.inputs_of-inputs.ensures,
-      few-inputs _ _ _ (bytes c.args.source) c.args.source.ready,
-      room-written,
-    ) in
+    let room : head_size trace_version ≤ length c.args.out.now = grind arith in
+    let few : c.inputs_of-inputs.result ≤ inputs_limit trace_version = grind (arith, few-inputs _ _ _ (bytes c.args.source) c.args.source.ready, room-written) in
     (room, few)
 
 -- the header is written
@@ -38,11 +33,7 @@ module _ (c : After-put_header-a) where
   S = c.inputs_of-inputs.result
 
   few : S ≤ input_room
-  few = omega (
-    arith,
-    c.inputs_of-inputs.ensures,
-    few-inputs _ _ _ (bytes c.args.source) c.args.source.ready,
-  )
+  few = grind (arith, few-inputs _ _ _ (bytes c.args.source) c.args.source.ready)
 
   after-header : c.put_header-a.result ≡ head_size trace_version
   unfolding trace_version
@@ -51,7 +42,7 @@ module _ (c : After-put_header-a) where
 pub put_opening-b-requires : goal.put_opening-b-requires
 put_opening-b-requires c =
     let place = (goal.at.put_opening-b-requires c).After-put_header-a in
-    omega (arith, after-header place, c.put_header-a.auto.out, (start place).requires.3, (start place).requires.4)
+    grind (arith, after-header place, (start place).requires.3, (start place).requires.4)
 
 pub overflow_add-f : goal.overflow_add-f
 overflow_add-f c = omega (arith, few (goal.at.overflow_add-f c).After-put_header-a, symbols_in_two-bytes)
@@ -64,17 +55,8 @@ write_copies-requires c =
     let n = c.first_names-names.ensures in (
       s.requires.0,
       omega (arith, few place, symbols_in_two-bytes, s.requires.1, s.requires.2),
-      omega (arith, few place, c.inputs_of-inputs.ensures, n.0),
-      omega (
-        arith,
-        c.put_opening-b.ensures.next,
-        c.put_opening-b.auto.out,
-        after-header place,
-        c.put_header-a.auto.out,
-        rest-size (S place) (listed (read_table table)) s.args.bound c.first_names-names.result n.1,
-        s.requires.3,
-        s.requires.4,
-      ),
+      grind (arith, few place, n.0),
+      grind (arith, after-header place, rest-size (S place) (listed (read_table table)) s.args.bound c.first_names-names.result n.1, s.requires.3, s.requires.4),
     )
 
 pub returns : goal.returns

@@ -20,11 +20,4 @@ pub returns : goal.returns
 returns c =
     let s = c.args.s.now in
     let i = c.args.at in
-    omega (
-      arith,
-      c.from_be_bytes.ensures,
-      four-at s i c.requires,
-      two s i (i + 1) (omega arith) (omega arith),
-      two s (i + 2) (i + 3) (omega
-          arith) (omega arith),
-    )
+    grind (arith, four-at s i c.requires, two s i (i + 1) (omega arith) (omega arith), two s (i + 2) (i + 3) (omega arith) (omega arith))

@@ -36,7 +36,7 @@ returns-in-Err g c =
 pub learn-requires : goal.learn-requires
 learn-requires g c =
     let v = c.loop-k.invariant in (
-      omega (arith, v.0.inside, c.requires.1),
+      grind (arith, v.0.inside),
       v.1,
       ap is_good (there v.0 c.loop-k-test.true (sym c.in-Some.is ∙ c.frame_at.ensures) _ v.2 (g.met.R.Reader.low _ _ _)
           c.in_default-check.ensures).1,

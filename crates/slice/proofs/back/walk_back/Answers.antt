@@ -16,7 +16,7 @@ loop-k-init c =
     let all : c.into_iter-k-iterator.result.iter.iter.rest.now ≡ c.args.offsets.now = (cc) in (
       cc,
       record { few = omega (arith, ap length all); same = λ i h. ap (λ r. get_or r i 0) all },
-      walking_start _ _ _ _ (ap length all ∙ counted c.requires.0) (omega (arith, ap length all, c.requires.1)) c.requires.2 c.requires.3,
+      walking_start _ _ _ _ (ap length all ∙ counted c.requires.0) (grind (arith, ap length all)) c.requires.2 c.requires.3,
     )
 
 module _ (c : In-Some) where
@@ -30,11 +30,11 @@ module _ (c : In-Some) where
   next = one-less c.loop-k.invariant.1 _ _ c.in-Some.ensures.steps.1.0
 
   k-is : c.in-Some.k ≡ k
-  k-is = omega (arith, c.loop-k.invariant.0, c.in-Some.ensures.steps.1.1)
+  k-is = grind arith
 
   here : At c.requires.0 k c.in-Some.field-0-1.now
   here =
-      stands_at c.requires.0 k (omega (arith, next, c.loop-k.invariant.1.few))
+      stands_at c.requires.0 k (grind (arith, next))
       (last_is c.loop-k.invariant.1 _ _ c.in-Some.ensures.steps.1.0)
 
 pub step_back-behind-requires : goal.step_back-behind-requires

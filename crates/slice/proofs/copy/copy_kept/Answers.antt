@@ -44,4 +44,4 @@ pub returns : goal.returns
 returns c =
     let ends = zip_end c.args.offsets.now c.args.flags.now c.loop-from.yielded _ _ c.next.new.self _ (cc) (cc) c.loop-from.yielded_by
     c.in-None.is c.next.ensures.steps in
-    all_copied c.loop-from.invariant (omega (arith, ends, counted c.requires.0, c.requires.1))
+    all_copied c.loop-from.invariant (grind (arith, ends, counted c.requires.0))

@@ -14,7 +14,7 @@ use Rattle.slice.proofs.mask.mask_of.Goals as goal
 
 pub contains-requires : goal.contains-requires
 unfolding symbol_room
-contains-requires c = omega (arith, c.loop-s-test.true, c.requires)
+contains-requires c = grind arith
 
 pub loop-s-preserved : goal.loop-s-preserved
 loop-s-preserved c =
@@ -22,6 +22,6 @@ loop-s-preserved c =
     let set = in_set c.args.needed.now in
     let small : c.loop-s.mask < 2 ^ s = subst (λ m. m < 2 ^ s) (sym c.loop-s.invariant) (mask_lt s set) in
     ap (λ w. bit_or c.loop-s.mask (w * 2 ^ s % 2 ^ 64)) (c.from.ensures ∙ ap bool_byte c.contains.ensures)
-    ∙ bit-set c.loop-s.mask s (set s) (omega (arith, c.loop-s-test.true, c.requires)) small
+    ∙ bit-set c.loop-s.mask s (set s) (grind arith) small
     ∙ ap (λ m. test (set s) * 2 ^ s + m) c.loop-s.invariant
     ∙ sym (ap (λ n. mask_of n set) (add-one s))

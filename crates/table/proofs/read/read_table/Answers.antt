@@ -50,7 +50,7 @@ count_of-n-requires c = (head (goal.at.count_of-n-requires c).In_ok-header_reply
 pub read_records-requires : goal.read_records-requires
 read_records-requires c =
     let place = (goal.at.read_records-requires c).In_ok-header_reply in
-    ((head place).long, small place, omega (arith, (head place).count, c.count_of-n.ensures, c.requires), tt)
+    ((head place).long, small place, grind (arith, (head place).count), tt)
 
 pub returns : goal.returns
 returns c =

@@ -42,7 +42,7 @@ pub step-requires : goal.step-requires
 step-requires c =
     let place = (goal.at.step-requires c).After-shared_slice_known-1 in
     let v = c.loop-spot.invariant in (
-      omega (arith, c.type_inv.offsets c.loop-spot.spot.i),
+      grind (arith, c.type_inv.offsets c.loop-spot.spot.i),
       few place,
       c.loop-spot-test.true,
       v.few,

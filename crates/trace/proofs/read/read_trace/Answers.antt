@@ -53,9 +53,9 @@ read_records-requires c =
     let place = (goal.at.read_records-requires c).In_ok-header_reply in (
       (head place).long,
       small place,
-      omega (arith, (head place).count, c.count_of.ensures, c.requires),
+      grind (arith, (head place).count),
       first-ready c.at_first-seen.ensures
-          (omega (arith, (head place).inputs, inputs-room (header_version (s place)), c.inputs_of.ensures)),
+          (grind (arith, (head place).inputs, inputs-room (header_version (s place)))),
     )
 
 pub returns : goal.returns

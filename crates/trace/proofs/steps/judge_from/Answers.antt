@@ -47,4 +47,4 @@ loop-at-preserved c =
     c.in_ok-step_at.was
 
 pub returns : goal.returns
-returns c = end c.loop-at.invariant (omega (arith, c.loop-at-test.false, counted (goal.at.returns c).Start))
+returns c = end c.loop-at.invariant (grind (arith, counted (goal.at.returns c).Start))

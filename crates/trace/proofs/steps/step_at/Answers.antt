@@ -29,11 +29,7 @@ is-value c =
 
 below : (c : In-Assign) → c.in-Assign.symbol < length c.args.cells.now
 below c =
-    omega (
-      arith,
-      (acts-assign (here (goal.at.In-Assign c).Start) c.in-Assign.symbol (sym c.stmt_at-stmt.ensures.1 ∙ c.in-Assign.is)).1,
-      c.requires.1,
-    )
+    grind (arith, (acts-assign (here (goal.at.In-Assign c).Start) c.in-Assign.symbol (sym c.stmt_at-stmt.ensures.1 ∙ c.in-Assign.is)).1)
 
 pub bounds-cells-symbol : goal.bounds-cells-symbol
 bounds-cells-symbol c = below (goal.at.bounds-cells-symbol c).In-Assign

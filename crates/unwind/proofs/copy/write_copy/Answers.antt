@@ -46,8 +46,8 @@ invariant_of-copy-2 c = bounds (goal.at.invariant_of-copy-2 c).Start
 
 pub put_exit-to-requires : goal.put_exit-to-requires
 put_exit-to-requires c = (
-  omega (arith, c.place.ensures.1),
-  omega (arith, c.end.ensures.1),
+  grind arith,
+  grind arith,
   exit_room c.loop-i.invariant (count-is (goal.at.put_exit-to-requires c).Start) c.loop-i-test.false c.requires.4,
 )
 

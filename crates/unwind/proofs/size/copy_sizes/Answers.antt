@@ -14,25 +14,11 @@ instr_sizes-s-requires c = (
 
 pub overflow_add-sum : goal.overflow_add-sum
 overflow_add-sum c =
-    omega (
-      arith,
-      c.loop-i.invariant.0.little,
-      c.instr_sizes-s.ensures.2,
-      c.loop-i-test.true,
-      few _ _ _ (bytes c.args.source)
-          c.args.source.ready,
-    )
+    grind (arith, few _ _ _ (bytes c.args.source) c.args.source.ready)
 
 pub overflow_add-sum-in-loop-i : goal.overflow_add-sum-in-loop-i
 overflow_add-sum-in-loop-i c =
-    omega (
-      arith,
-      c.loop-i.invariant.1.little,
-      c.instr_sizes-s.ensures.3,
-      c.loop-i-test.true,
-      few _ _ _ (bytes c.args.source)
-          c.args.source.ready,
-    )
+    grind (arith, few _ _ _ (bytes c.args.source) c.args.source.ready)
 
 pub loop-i-preserved : goal.loop-i-preserved
 loop-i-preserved c =

@@ -28,21 +28,14 @@ loop-t-init c =
 pub overflow_add-size : goal.overflow_add-size
 overflow_add-size c = record {
   fits =
-      omega (
-        arith,
-        c.requires.1,
-        c.loop-t.invariant,
-        c.size-size.ensures,
-        left-length Trace c.in-Some.ensures.steps,
-        small (goal.at.overflow_add-size c).After-into_iter-t-iterator,
-      );
+      grind (arith, left-length Trace c.in-Some.ensures.steps, small (goal.at.overflow_add-size c).After-into_iter-t-iterator);
 }
 
 pub loop-t-preserved : goal.loop-t-preserved
-loop-t-preserved c = omega (arith, c.loop-t.invariant, c.size-size.ensures, left-length Trace c.in-Some.ensures.steps)
+loop-t-preserved c = grind (arith, left-length Trace c.in-Some.ensures.steps)
 
 pub returns : goal.returns
 returns c =
     let q : c.loop-t.size ≡ expr_size (tokens_of (parse Table known c.args.e.now)) =
-    omega (arith, c.loop-t.invariant, ap expr_size c.in-None.ensures.steps.0) in
+    grind (arith, ap expr_size c.in-None.ensures.steps.0) in
     (q, omega (arith, q, small (goal.at.returns c).After-into_iter-t-iterator))

@@ -28,7 +28,7 @@ returns-in_err-t-clause-steps c =
     rw c.from_residual.ensures (e, e)
 
 pub split_at-requires : goal.split_at-requires
-split_at-requires c = omega (arith, c.size.ensures, token-inside _ _ _ (read (goal.at.split_at-requires c).In_ok-t))
+split_at-requires c = grind (arith, token-inside _ _ _ (read (goal.at.split_at-requires c).In_ok-t))
 
 pub returns-clause-steps : goal.returns-clause-steps
 returns-clause-steps c = steps (goal.at.returns-clause-steps c).After-split_at

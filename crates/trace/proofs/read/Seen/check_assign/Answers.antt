@@ -22,7 +22,7 @@ returns-then-symbol-self c =
     (rw c.two_at-symbol.ensures.0 at c.if-symbol-self.true))
 
 pub overflow_add-self : goal.overflow_add-self
-overflow_add-self c = omega (arith, c.requires.2, symbols_in_two-bytes)
+overflow_add-self c = grind (arith, symbols_in_two-bytes)
 
 pub returns-then-self-symbol : goal.returns-then-self-symbol
 returns-then-self-symbol c =

@@ -6,5 +6,5 @@ use Rattle.trace.proofs.records.Records.first.Goals as goal
 
 pub invariant_of-result : goal.invariant_of-result
 invariant_of-result c =
-    accepted-stand _ _ (all-at Byte c.args.trace.now (λ i h. (c.type_inv.trace i).fits)) c.requires.0 (omega (arith, c.requires.1))
+    accepted-stand _ _ (all-at Byte c.args.trace.now (λ i h. (c.type_inv.trace i).fits)) c.requires.0 (grind arith)
     c.header_size.ensures
