@@ -18,7 +18,8 @@ stmt_at-requires c = let h = held (goal.at.stmt_at-requires c).Start in (h.whole
 
 below : (c : In-Assign) → c.in-Assign.symbol < symbol_room
 below c =
-    grind (arith, (acts-assign (held (goal.at.In-Assign c).Start) c.in-Assign.symbol (sym c.stmt_at.ensures.1 ∙ c.in-Assign.is)).1, symbol-room)
+    let assigns = acts-assign (held (goal.at.In-Assign c).Start) c.in-Assign.symbol (sym c.stmt_at.ensures.1 ∙ c.in-Assign.is) in
+    grind (arith, assigns.1, symbol-room)
 
 pub bounds-self-symbol : goal.bounds-self-symbol
 unfolding symbol_room
