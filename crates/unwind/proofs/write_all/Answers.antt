@@ -22,7 +22,7 @@ unfolding trace_version
 put_header-a-requires c =
     let room : head_size trace_version ≤ length c.args.out.now = grind arith in
     let few : c.inputs_of-inputs.result ≤ inputs_limit trace_version =
-        grind (arith, few-inputs _ _ _ (bytes c.args.source) c.args.source.ready, room-written) in
+    grind (arith, few-inputs _ _ _ (bytes c.args.source) c.args.source.ready, room-written) in
     (room, few)
 
 -- the header is written
@@ -57,8 +57,13 @@ write_copies-requires c =
       s.requires.0,
       omega (arith, few place, symbols_in_two-bytes, s.requires.1, s.requires.2),
       grind (arith, few place, n.0),
-      grind (arith, after-header place, rest-size (S place) (listed (read_table table)) s.args.bound c.first_names-names.result n.1,
-      s.requires.3, s.requires.4),
+      grind (
+        arith,
+        after-header place,
+        rest-size (S place) (listed (read_table table)) s.args.bound c.first_names-names.result n.1,
+        s.requires.3,
+        s.requires.4,
+      ),
     )
 
 pub returns : goal.returns
