@@ -1,7 +1,7 @@
 -- The laws of headers, frames and records: what an accepted file is, record after record from any offset.
 use Prim.Native.Nat.{ℕ, zero, suc, ◌+◌, ◌-◌, ◌≤◌, ◌<◌}
 use native.Mathlib.Omega.{arith}
-use Rattle.std.proofs.Common.{ap₂, ◌∙◌, subst, length-drop, drop_of_length-le, length-take-le, take_all, drop-drop}
+use Rattle.std.proofs.Common.{add-one, ap₂, ◌∙◌, subst, length-drop, drop_of_length-le, length-take-le, take_all, take-suc, drop-drop}
 use Rattle.std.proofs.Common.{drop-cons, get_or-drop, get_or-append-add}
 use Rattle.std.proofs.Math.Decide.{dec_lt}
 use Rattle.std.proofs.Math.Path.{◌≡◌, refl, sym, ap, fun_ext}
@@ -25,7 +25,7 @@ use Rattle.expr.specs.Shown.{checked}
 use Rattle.expr.proofs.ExprLaws.{breaks-inside}
 use Rattle.expr.specs.Expr.{Parsed, Whole, Breaks, parse}
 use Rattle.expr.specs.Eval.{env_of}
-use Rattle.file.specs.Shown.{frame_in, reply_of, fault_at, fine, fault_in, fault_of, expr_fault, one_more, read_count, reading_of}
+use Rattle.file.specs.Shown.{Fault, frame_in, reply_of, fault_at, fine, fault_in, fault_of, expr_fault, one_more, read_count, reading_of}
 use Rattle.file.specs.Shown.{offsets_from, offsets_in}
 use Rattle.file.specs.declared.Reason.{Reason}
 use Rattle.file.specs.declared.Reason.TheVariants as R
@@ -147,22 +147,22 @@ module _ {A : Type 0} where
   cond-low true x y h k = h
   cond-low false x y h k = k
 
-  -- what the code refuses is refused, and it points into the record, or at its end
-  pub fault_bad : (len : ℕ) (x : Body A) (f : Code.Refusal) → fault_in (Err f) ≡ fault_of len x
-      → (r : Refusal) × (x ≡ Bad r) × (fault_in (Err f) ≡ fault_at len r)
-  fault_bad len (Good a) f e = absurd (omega (arith, ap (λ f. f.reply) e, reply-some f.reason))
-  fault_bad len (Bad r) f e = (r, refl, e)
+  -- a reply that is not 0 is a refusal's; one that is 0 is a thing's
+  pub fault_bad : (len : ℕ) (x : Body A) (f : Fault) → f ≡ fault_of len x → (f.reply ≡ 0 → ⊥)
+      → (r : Refusal) × (x ≡ Bad r) × (f ≡ fault_at len r)
+  fault_bad len (Good a) f e h = absurd (h (ap (λ f. f.reply) e))
+  fault_bad len (Bad r) f e h = (r, refl, e)
 
-  pub fault_inside : (len : ℕ) (x : Body A) (f : Code.Refusal) → fault_in (Err f) ≡ fault_of len x → f.offset ≤ 2 + len
+  -- and points into the record, or at its end
+  pub fault_inside : (len : ℕ) (x : Body A) (f : Fault) → f ≡ fault_of len x → f.from ≤ 2 + len
   fault_inside len (Good a) f e = omega (arith, ap (λ f. f.from) e)
   fault_inside len (Bad (AtRecord r)) f e = omega (arith, ap (λ f. f.from) e)
   fault_inside len (Bad (AtToken left)) f e = omega (arith, ap (λ f. f.from) e)
 
-  -- what it lets through is a thing
-  pub fault_good : (len : ℕ) (x : Body A) → Low x → fine ≡ fault_of len x → (a : A) × (x ≡ Good a)
-  fault_good len (Good a) l e = (a, refl)
-  fault_good len (Bad (AtRecord q)) l e = absurd (let k : 5 ≤ q = l.0 in omega (arith, ap (λ f. f.reply) e))
-  fault_good len (Bad (AtToken left)) l e = absurd (omega (arith, ap (λ f. f.reply) e))
+  pub fault_good : (len : ℕ) (x : Body A) (f : Fault) → Low x → f ≡ fault_of len x → f.reply ≡ 0 → (a : A) × (x ≡ Good a)
+  fault_good len (Good a) f l e h = (a, refl)
+  fault_good len (Bad (AtRecord q)) f l e h = absurd (let k : 5 ≤ q = l.0 in omega (arith, ap (λ f. f.reply) e))
+  fault_good len (Bad (AtToken left)) f l e h = absurd (omega (arith, ap (λ f. f.reply) e))
 
   record-low : (one : List ℕ → Body A) → ((bs : List ℕ) → Low (one bs)) → (bs : List ℕ) → Low (record_of one bs)
   unfolding record_of
@@ -559,6 +559,13 @@ sets_at xs vs k h l =
     ∙ get_or-append vs (drop (0 + length vs) xs) 0 k l
 
 -- ---- words at the front of zeros
+
+pub copy_next : (xs ws : List ℕ) (s : ℕ) → s < length ws → set (sets xs 0 (take s ws)) s (get_or ws s 0) ≡ sets xs 0 (take (s + 1) ws)
+copy_next xs ws s h =
+    ap (λ k. set (sets xs 0 (take s ws)) k (get_or ws s 0))
+    (let e : s ≡ 0 + length (take s ws) = omega (arith, length-take-le s ws (omega arith)) in e)
+    ∙ sym (sets_snoc xs 0 (take s ws) (get_or ws s 0))
+    ∙ sym (ap (sets xs 0) (ap (λ n. take n ws) (add-one s) ∙ take-suc ws s 0 h))
 
 pub same_everywhere : {A : Type 0} (n : ℕ) (a : A) (x : ℕ) → get_or (replicate n a) x a ≡ a
 same_everywhere {A} n a x =

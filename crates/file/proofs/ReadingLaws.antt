@@ -41,14 +41,19 @@ too_long known limit s o h =
       ne_eqb (header_total s) (length s) (λ e. omega (arith, total-small s o)),
     )
 
--- a refusal is the file's
+-- a reply is the file's
+pub reply_refuses : {A : Type 0} {file : Input A} {count : ℕ} {s off off' : List ℕ} {r : Result ℕ Unread}
+    → ReadFile file count s off off' r → ((reading_in r).reply ≡ 0 → ⊥) → file ≡ Refused (reading_in r).reply (reading_in r).offset
+reply_refuses {A} {file} {count} {r = r} w h = go file refl w.answer
+  where
+    go : (x : Input A) → file ≡ x → reading_in r ≡ file_reading count x → file ≡ Refused (reading_in r).reply (reading_in r).offset
+    go (Accepted head xs) e q = absurd (h (ap (λ r. r.reply) q))
+    go (Refused k at) e q = e ∙ sym (ap₂ {C = Input A} Refused (ap (λ r. r.reply) q) (ap (λ r. r.offset) q))
+
+-- so is a refusal
 pub refuses : {A : Type 0} {file : Input A} {count : ℕ} {s off off' : List ℕ} {u : Unread} → ReadFile file count s off off' (Err u)
     → file ≡ Refused (reply_of u.why.reason) u.why.offset
-refuses {A} {file} {count} {u = u} w = go file refl w.answer
-  where
-    go : (x : Input A) → file ≡ x → reading_in (Err u) ≡ file_reading count x → file ≡ Refused (reply_of u.why.reason) u.why.offset
-    go (Accepted head xs) e q = absurd (omega (arith, ap (λ r. r.reply) q, reply-some u.why.reason))
-    go (Refused k at) e q = e ∙ sym (ap₂ {C = Input A} Refused (ap (λ r. r.reply) q) (ap (λ r. r.offset) q))
+refuses {u = u} w = reply_refuses w (λ z. omega (arith, z, reply-some u.why.reason))
 
 module _ {A St : Type 0} (known : ℕ → Bool) (limit : ℕ) (one : (head : Head) (n : ℕ) → St → List ℕ → Body A) (next : St → A → St)
     (first : (head : Head) → St) (s : List ℕ) where

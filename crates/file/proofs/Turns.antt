@@ -5,7 +5,7 @@ use Rattle.std.proofs.Common.{arith, sym, ap, ◌∙◌, subst}
 use Rattle.file.specs.File.{Low, Body, Good, frame, record_of}
 use Rattle.file.specs.Shown.{frame_in, fine, fault_in, fault_of, ReadRecords}
 use Rattle.file.specs.declared.Refusal as Code
-use Rattle.file.proofs.FileLaws.{frame-some, record-inside, record-cut, cut-length, fault_bad, fault_inside, fault_good}
+use Rattle.file.proofs.FileLaws.{frame-some, record-inside, record-cut, cut-length, reply-some, fault_bad, fault_inside, fault_good}
 use Rattle.file.proofs.WalkLaws.{Walking, refuse, on}
 
 module _ {A St : Type 0} {one : St → List ℕ → Body A} {next : St → A → St} {s : List ℕ} {n : ℕ} {σ₀ : St} {off₀ off : List ℕ} {at k : ℕ}
@@ -31,17 +31,17 @@ module _ {A St : Type 0} {one : St → List ℕ → Body A} {next : St → A →
 
     module _ (r : Code.Refusal) (e : fault_in (Err r) ≡ fault_of (length body) (now σ body)) where
       pub points-inside : at + r.offset ≤ length s
-      points-inside = omega (arith, fault_inside (length body) (now σ body) r e, cut_all, inside)
+      points-inside = omega (arith, fault_inside (length body) (now σ body) (fault_in (Err r)) e, cut_all, inside)
 
       pub refused : {r' : Code.Refusal} → r' ≡ record { reason = r.reason; offset = at + r.offset }
           → ReadRecords one next s n σ₀ off₀ off (Err (record { why = r'; count = k }))
       refused q =
-          let b = fault_bad (length body) (now σ body) r e in
+          let b = fault_bad (length body) (now σ body) (fault_in (Err r)) e (λ z. omega (arith, z, reply-some r.reason)) in
           refuse one next s n σ₀ off₀ w h b.0 (as-begun (cut ∙ b.1)) (cut_all ∙ is-frame.0) b.2 refl points-inside
           (ap (λ r. record { why = r; count = k }) q)
 
     pub there : Low (now σ body) → fine ≡ fault_of (length body) (now σ body) → (x : A) × (record_of (now σ) (drop at s) ≡ Good x)
-    there l e = let g = fault_good (length body) (now σ body) l e in (g.0, cut ∙ g.1)
+    there l e = let g = fault_good (length body) (now σ body) fine l e refl in (g.0, cut ∙ g.1)
 
     -- with the code's own meaning of what is next
     pub goes_on : (x : A) → record_of (now σ) (drop at s) ≡ Good x → (then : St → A → St) → then ≡ next → {σ' : St} → σ' ≡ then σ x
