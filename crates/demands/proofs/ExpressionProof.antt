@@ -27,7 +27,7 @@ use Rattle.expr.specs.Token.{operator, read_token}
 use Rattle.expr.specs.TokenLaws.{IsOperator, operator-is, operator-count}
 use Rattle.expr.specs.Expr.{depth_limit, pops, after, fits, Parsed, Whole, Breaks, also, on_token, parse_from, parse}
 use Rattle.expr.proofs.ExprLaws.{fits-is, fits_const, fits-symbol, fits-operator, on-token, token-at, end-at}
-use Rattle.expr.specs.Lists.{every, every-below}
+use Rattle.expr.proofs.Standing.{popped, pops_of, pops-by_range, pops-ite}
 use Rattle.expr.proofs.Reading.{constant-there, constant-short, symbol-there, symbol-short, operator-there}
 use Rattle.demands.specs.Expression.{symbol_byte, symbol_bytes, most_words, Keeps, constant, symbol, unary, binary, ite, Kept, nothing}
 use Rattle.demands.specs.Expression.{token}
@@ -46,28 +46,6 @@ same_width Table = refl
 same_width Trace = refl
 
 -- ---- operators by their codes
-
--- how many words the operator of a code pops
-abbrev popped : Option Token → ℕ
-popped None = 0
-popped (Some t) = pops t
-
-pops_of : (code : ℕ) → ℕ
-pops_of b = popped (operator b)
-
-abbrev pops_by_range : ℕ → ℕ
-pops_by_range b = cond (ltb b 0x10) 0 (cond (ltb b 0x13) 1 (cond (ltb b 0x20) 0 (cond (ltb b 0x2E) 2 (cond (eqb b 0x30) 3 0))))
-
-computed : every 256 (λ b. eqb (pops_of b) (pops_by_range b)) ≡ true
-unfolding pops_of operator
-computed = refl
-
-pops-by_range : (b : ℕ) → b < 256 → pops_of b ≡ pops_by_range b
-pops-by_range b h = eqb-true (pops_of b) (pops_by_range b) (every-below 256 (λ b. eqb (pops_of b) (pops_by_range b)) computed b h)
-
-pops-ite : pops_of 0x30 ≡ 3
-unfolding pops_of operator
-pops-ite = refl
 
 unary-code : (o : Unary) → (0x10 ≤ unary_code o) × (unary_code o ≤ 0x12)
 unary-code Not = (omega arith, omega arith)

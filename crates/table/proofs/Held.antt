@@ -31,6 +31,7 @@ pub record Held (T n : ℕ) (s : List ℕ) (at : ℕ) : Type 0 where
   pub acts : action_at s at ≡ action_of instruction
   pub symbols : (y : ℕ) → action_of instruction ≡ A.Assign y → y < T
   pub targets : (t : ℕ) → action_of instruction ≡ A.Goto t → t ≤ n
+  pub kinds : (get_or s (at + 2) 0 ≡ 1 → ⊥) → (get_or s (at + 2) 0 ≡ 4 → ⊥) → (2 ≤ get_or s (at + 2) 0) × (get_or s (at + 2) 0 ≤ 3)
 
 module _ (T n : ℕ) (s : List ℕ) (at : ℕ) where
   module _ (x : Instr) (g : record_of (instr T n) (drop at s) ≡ Good x) where
@@ -77,6 +78,7 @@ module _ (T n : ℕ) (s : List ℕ) (at : ℕ) where
               ) (ap {B = Action} (λ k. A.Test k) d);
           symbols = λ y z. absurd (let x : ◌≡◌ {A = ℕ} 0 1 = cc in omega arith);
           targets = λ y z. absurd (let x : ◌≡◌ {A = ℕ} 0 1 = cc in omega arith);
+          kinds = λ y z. c;
         }
 
     held : (x : Instr) → record_of (instr T n) (drop at s) ≡ Good x → Says T n body x → Held T n s at
@@ -93,6 +95,7 @@ module _ (T n : ℕ) (s : List ℕ) (at : ℕ) where
           acts = rw (eq-eqb (get_or s (at + 2) 0) 1 c) (ap {B = Action} (λ w. A.Assign w) (sym v));
           symbols = λ y z. subst (λ w. w < T) (let x : number_of 1 (drop 1 body) ≡ y = cc in x) m;
           targets = λ y z. absurd (let x : ◌≡◌ {A = ℕ} 0 1 = cc in omega arith);
+          kinds = λ y z. absurd (y c);
         }
     held x g (says_goto e k h m p) =
         let c : get_or s (at + 2) 0 ≡ 4 = sym kind ∙ k in
@@ -113,6 +116,7 @@ module _ (T n : ℕ) (s : List ℕ) (at : ℕ) where
               (ap {B = Action} (λ w. A.Goto w) (sym v));
           symbols = λ y z. absurd (let x : ◌≡◌ {A = ℕ} 0 1 = cc in omega arith);
           targets = λ t z. subst (λ w. w ≤ n) (let x : number_of 2 (drop 1 body) ≡ t = cc in x) m;
+          kinds = λ y z. absurd (z c);
         }
     held x g (says-assume e k h p) =
         let c : get_or s (at + 2) 0 ≡ 2 = sym kind ∙ k in

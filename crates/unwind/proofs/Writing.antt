@@ -2,6 +2,7 @@
 use Prim.Native.Nat.{ℕ, suc, ◌+◌, ◌*◌, ◌≤◌, ◌<◌}
 use native.Mathlib.Omega.{arith}
 use native.Mathlib.Numerals.{add-one}
+use native.Mathlib.Nat.{mul-le-mul_left, mul-le-mul_right}
 use mathlib.Core.Path.{◌≡◌, refl, sym, ap, ◌∙◌, subst, fun_ext}
 use mathlib.Core.Bool.{Bool, true, false, not, cond, ◌&&◌}
 use mathlib.Core.List.{List, [], ◌∷◌, ◌++◌, append-nil}
@@ -37,6 +38,11 @@ use Rattle.unwind.specs.Shown.{current_of, newest_of, tokens_in, place_of, Writt
 use Rattle.unwind.proofs.Exprs.{current-at}
 
 -- ---- numbers
+
+pub place-little : (n i r : ℕ) → n ≤ 1024 → i ≤ n → r ≤ 256 → r * (n + 1) + i ≤ 263424
+place-little n i r a b c =
+    let x : n + 1 ≤ 1025 = omega arith in
+    omega (arith, mul-le-mul_left r x, mul-le-mul_right 1025 c)
 
 pub current-set : (names : List ℕ) (s v : ℕ) → s < length names → current_of (set names s v) ≡ update (current_of names) s v
 current-set names s v h = fun_ext (λ x. go x (eqb x s) refl)

@@ -19,7 +19,7 @@ use Rattle.file.proofs.ReadingLaws.{refuses}
 use Rattle.table.specs.Table.{is_table, read_table}
 use Rattle.table.specs.Shown.{Ready}
 use Rattle.table.proofs.Answers.{offset-small, table-accepted, right-header, many, is-ready}
-use native.Mathlib.Nat.{mul-le-mul_left, mul-le-mul_right}
+use Rattle.unwind.proofs.Writing.{place-little}
 use Rattle.unwind.proofs.Answers.{table_refuses, bound_refuses, count_refuses, size_refuses, room_refuses, trace_written}
 use Rattle.unwind.proofs.try_write.Goals as goal
 use Rattle.unwind.proofs.try_write.Goals.{After-from_residual, In_ok-n}
@@ -58,10 +58,7 @@ module _ (c : In_ok-n) where
   few = omega (arith, whole.count, head.count)
 
   statements : (K : ℕ) → K ≤ 255 → (K + 1) * (n + 1) + 0 ≤ 263424
-  statements K l =
-      let k : K + 1 ≤ 256 = omega arith in
-      let m : n + 1 ≤ 1025 = omega (arith, few) in
-      omega (arith, mul-le-mul_left (K + 1) m, mul-le-mul_right 1025 k)
+  statements K l = place-little n 0 (K + 1) few (omega arith) (omega arith)
 
 -- the table is refused: the error that goes on is the reader's
 handed : (c : After-from_residual) → c.from_residual.result ≡ Err c.in_err-n.field-0.0.why
