@@ -1,6 +1,7 @@
 -- The token reader at an offset: what stands there, by the byte there and the number of bytes after it; and the tokens behind it.
 use Rattle.std.proofs.Common.{◌≡◌, ℕ, zero, suc, ◌+◌, ◌-◌, ◌<◌, ◌≤◌, cond, List, [], ◌∷◌, length, get_or, drop, sym, refl, ap, ◌∙◌}
 use Rattle.std.proofs.Common.{add-one, arith, length-drop, drop-cons, eq-eqb, ne_eqb, le-leb, None, Some}
+use Rattle.std.specs.Prelude.{Option}
 use Rattle.std.proofs.lemmas.Bool.{lt-leb}
 use Rattle.expr.specs.declared.File.{File}
 use Rattle.expr.specs.declared.File.TheVariants.{Table, Trace}
@@ -8,7 +9,7 @@ use Rattle.expr.specs.Number.{number_of}
 use Rattle.expr.specs.declared.token.Token.{Token}
 use Rattle.expr.specs.declared.token.Token.TheVariants.{Const, Symbol}
 use Rattle.expr.specs.Token.{symbol_code, symbol_width, operand_count, operand, operator, read_token}
-use Rattle.expr.specs.TokenLaws.{token-there}
+use Rattle.expr.specs.TokenLaws.{operator_high, symbol_code-low, token-there}
 use Rattle.expr.specs.Shown.{token_then, tokens_from}
 
 module _ (F : File) (s : List ℕ) (i : ℕ) (h : i < length s) where
@@ -60,6 +61,17 @@ module _ (F : File) (s : List ℕ) (i : ℕ) (h : i < length s) where
   pub operator-there : (get_or s i 0 ≡ 1 → ⊥) → (get_or s i 0 ≡ symbol_code F → ⊥) → read_token F (drop i s) ≡ operator (get_or s i 0)
   unfolding read_token
   operator-there p q = ap (read_token F) here ∙ rw (ne_eqb (get_or s i 0) 1 p, ne_eqb (get_or s i 0) (symbol_code F) q)
+
+  -- above the codes of operands stand operators alone, and below them none
+  pub operator-high : 3 < get_or s i 0 → read_token F (drop i s) ≡ operator (get_or s i 0)
+  operator-high l = operator-there (λ e. omega arith) (λ e. omega (arith, symbol_code-low F))
+
+  pub nothing-low : get_or s i 0 ≤ 3 → (get_or s i 0 ≡ 1 → ⊥) → (get_or s i 0 ≡ symbol_code F → ⊥) → read_token F (drop i s) ≡ None
+  nothing-low l p q = operator-there p q ∙ go (operator (get_or s i 0)) refl
+    where
+      go : (o : Option Token) → operator (get_or s i 0) ≡ o → o ≡ None
+      go None e = refl
+      go (Some t) e = absurd (omega (arith, l, operator_high (get_or s i 0) t e))
 
 -- ---- the tokens behind
 

@@ -46,7 +46,7 @@ operand-written k token n rest h =
     ∙ ap {B = Option Token} (λ x. Some (token x)) (number-written k n rest h)
 
 -- no operator has the code of a constant or a symbol
-operator_high : (b : ℕ) (t : Token) → operator b ≡ Some t → 3 < b
+pub operator_high : (b : ℕ) (t : Token) → operator b ≡ Some t → 3 < b
 unfolding operator
 operator_high zero t h = absurd (let z : ◌≡◌ {A = ℕ} 0 1 = cc in omega arith)
 operator_high (suc zero) t h = absurd (let z : ◌≡◌ {A = ℕ} 0 1 = cc in omega arith)
@@ -54,7 +54,7 @@ operator_high (suc (suc zero)) t h = absurd (let z : ◌≡◌ {A = ℕ} 0 1 = c
 operator_high (suc (suc (suc zero))) t h = absurd (let z : ◌≡◌ {A = ℕ} 0 1 = cc in omega arith)
 operator_high (suc (suc (suc (suc b)))) t h = omega arith
 
-symbol_code-low : (F : File) → symbol_code F ≤ 3
+pub symbol_code-low : (F : File) → symbol_code F ≤ 3
 symbol_code-low Table = omega arith
 symbol_code-low Trace = omega arith
 

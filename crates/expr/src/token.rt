@@ -133,13 +133,17 @@ pub fn symbol_at(e: &[u8], at: usize, file: File) -> usize
     }
 }
 
-// The token at a place, with all its operands.
+// The token at a place, with all its operands. No operator has a code as low as a symbol's: asked first, that keeps the compiler from making
+// one table of all codes, by which short expressions are slower.
 pub fn token_at(e: &[u8], at: usize, file: File) -> Option<Token>
     requires { at < length e.now }
     ensures { result ≡ read_token file (drop at e.now) }
 {
     let left = e.len() - at - 1;
     let code = e[at];
+    if TRACE_SYMBOL < code {
+        return Token::operator(code);
+    }
     if code == CONSTANT {
         if left < 4 {
             return None;
@@ -152,7 +156,7 @@ pub fn token_at(e: &[u8], at: usize, file: File) -> Option<Token>
         }
         return Some(Token::Symbol(symbol_at(e, at + 1, file)));
     }
-    Token::operator(code)
+    None
 }
 
 // The tokens of an expression, one after the other, up to the first place where none stands.

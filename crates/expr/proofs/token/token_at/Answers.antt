@@ -2,8 +2,11 @@ use Rattle.std.proofs.Common.{sym, ap, ◌∙◌, arith}
 use Rattle.std.specs.Prelude.{Option, Some}
 use Rattle.expr.specs.declared.token.Token.{Token}
 use Rattle.expr.specs.declared.token.Token.TheVariants.{Const, Symbol}
-use Rattle.expr.proofs.Reading.{constant-short, constant-there, symbol-short, symbol-there, operator-there}
+use Rattle.expr.proofs.Reading.{constant-short, constant-there, symbol-short, symbol-there, operator-high, nothing-low}
 use Rattle.expr.proofs.token.token_at.Goals as goal
+
+pub returns-then-code-gt-TRACE_SYMBOL : goal.returns-then-code-gt-TRACE_SYMBOL
+returns-then-code-gt-TRACE_SYMBOL c = c.operator.ensures ∙ sym (operator-high _ _ _ c.requires c.if-code-gt-TRACE_SYMBOL.true)
 
 pub returns-then-left-lt4 : goal.returns-then-left-lt4
 returns-then-left-lt4 c = sym (constant-short _ _ _ c.requires c.if-code-eq-CONSTANT.true c.if-left-lt4.true)
@@ -24,5 +27,5 @@ returns-then-code-symbol_code c =
 
 pub returns : goal.returns
 returns c =
-    c.operator.ensures
-    ∙ sym (operator-there _ _ _ c.requires c.if-code-eq-CONSTANT.false (λ e. c.if-code-symbol_code.false (e ∙ sym c.symbol_code.ensures)))
+    sym (nothing-low _ _ _ c.requires (omega arith) c.if-code-eq-CONSTANT.false (λ e. c.if-code-symbol_code.false (e ∙ sym
+    c.symbol_code.ensures)))
