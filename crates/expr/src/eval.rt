@@ -10,6 +10,7 @@ use super::{File, word};
 
 impl Stack {
     // What a token makes of the words that are held.
+    #[inline(always)]
     fn step(&mut self, t: Token, vals: &[u32])
         requires enough { pops t ≤ self.old.depth }
         requires room { after self.old.depth t ≤ 17 }
@@ -39,7 +40,9 @@ impl Stack {
     }
 }
 
-// The word that an expression leaves, with the values of its symbols.
+// The word that an expression leaves, with the values of its symbols. Inline in its two callers, each of which has one kind of file; so is
+// the step, since out of line it costs a call for each token.
+#[inline(always)]
 pub fn eval_expr(e: &[u8], file: File, vals: &[u32]) -> u32
     requires { is_whole (parse file (below (length vals.now)) e.now) ≡ true }
     ensures { result ≡ value_of (env_of vals.now) (parse file (below (length vals.now)) e.now) }

@@ -133,8 +133,8 @@ pub fn symbol_at(e: &[u8], at: usize, file: File) -> usize
     }
 }
 
-// The token at a place, with all its operands. No operator has a code as low as a symbol's: asked first, that keeps the compiler from making
-// one table of all codes, by which short expressions are slower.
+// The token at a place, with all its operands. No operator's code is as low as an operand's: asked first, this keeps the compiler from
+// making one table of all codes, which slows short expressions.
 pub fn token_at(e: &[u8], at: usize, file: File) -> Option<Token>
     requires { at < length e.now }
     ensures { result ≡ read_token file (drop at e.now) }
