@@ -173,6 +173,17 @@ impl<'a> Tokens<'a> {
     {
         Tokens { rest, file }
     }
+
+    // Of the bytes from an offset on: none, where it is behind the end.
+    pub fn from_offset(bytes: &'a [u8], at: usize, file: File) -> Tokens<'a>
+        ensures rest { result.rest.now ≡ drop at bytes.entry.now }
+        ensures file { result.file ≡ file }
+    {
+        if bytes.len() < at {
+            return Tokens { rest: &[], file };
+        }
+        Tokens::new(&bytes[at..], file)
+    }
 }
 
 impl<'a> Iterator for Tokens<'a> {
