@@ -12,8 +12,8 @@ use expr::{File, number};
 use file::records::Reader;
 use file::{Kind, Reason, Refusal, Unread, records};
 
-// Refuses the expression from a place of a record on. Inline, as in a trace's reader: where records are short, a call for each is half of
-// what reading costs.
+// Refuses the expression from a place of a record on. Inline, as in a trace's reader: where records are short, a call for each makes
+// reading dearer by a third.
 #[inline(always)]
 fn expr_fault(body: &[u8], from: usize, inputs: usize) -> Result<(), Refusal>
     requires { from ≤ length body.now }
